@@ -1,0 +1,4 @@
+pub mod Plain
+pub mod Placing
+pub mod Proses
+pub mod Layers

@@ -1,0 +1,5 @@
+pub mod Tokens
+pub mod Texts
+pub mod Bytes
+pub mod Proses
+pub mod Layers
