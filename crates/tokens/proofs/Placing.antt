@@ -8,7 +8,7 @@ use lib.ListN.{length, drop}
 use Rattle.std.proofs.shelf.Tests.{cond-both}
 use Rattle.std.specs.shelf.Lists.{kept-by}
 use Rattle.tokens.specs.declared.token.Token.{Token}
-use Rattle.tokens.specs.Tokens.{Sound, Placed-from}
+use Rattle.tokens.specs.Tokens.{Sound, Placed-from, rest}
 
 pub placed-weaker : (a b : ℕ) (ts : List Token) → b ≤ a → Placed-from a ts → Placed-from b ts
 placed-weaker a b [] h p = tt
@@ -32,3 +32,7 @@ placed-kept test a (t ∷ ts) p =
     cond-both (test t) (t ∷ kept-by test ts) (kept-by test ts) (Placed-from a)
     (λ _. (p .0, p .1, placed-kept test (t .to) ts (p .2)))
     (λ _. placed-kept test a ts (placed-tail a t ts p))
+
+pub placed-rest : (a : ℕ) (ts : List Token) → Placed-from a ts → Placed-from a (rest ts)
+placed-rest a [] p = p
+placed-rest a (t ∷ ts) p = placed-tail a t ts p

@@ -3,3 +3,7 @@ pub mod Texts
 pub mod Bytes
 pub mod Proses
 pub mod Layers
+pub mod Sides
+pub mod Onwards
+pub mod Names
+pub mod Naming

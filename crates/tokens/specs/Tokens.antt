@@ -10,6 +10,8 @@ use Rattle.std.specs.declared.result.Result.{Result}
 use Rattle.std.specs.declared.result.Result.the-variants.{Ok, Err}
 use Rattle.tokens.specs.declared.token.Class.{Class}
 use Rattle.tokens.specs.declared.token.Class.the-variants.{Unused, Blank, NameFirst, NameFurther, Keyword, NumberFirst, NumberFurther, Mark, Quoted, Comment, Made}
+use Rattle.tokens.specs.declared.token.Cause.{Cause}
+use Rattle.tokens.specs.declared.token.Cause.the-variants.{TooLong, ZeroByte, OpenComment, LongName, Fifth, Sixth, Seventh, Eighth, Ninth}
 use Rattle.tokens.specs.declared.token.Token.{Token}
 use Rattle.tokens.specs.declared.token.Fault.{Fault}
 
@@ -30,6 +32,18 @@ class-number Mark = 7
 class-number Quoted = 8
 class-number Comment = 9
 class-number Made = 10
+
+-- the numbers of the causes
+abbrev pub cause-number : Cause → ℕ
+cause-number TooLong = 1
+cause-number ZeroByte = 2
+cause-number OpenComment = 3
+cause-number LongName = 4
+cause-number Fifth = 5
+cause-number Sixth = 6
+cause-number Seventh = 7
+cause-number Eighth = 8
+cause-number Ninth = 9
 
 -- Two tokens are the same exactly when their codes are.
 unfoldable pub same : Token → Token → Bool

@@ -39,7 +39,7 @@ pub impl<S: Source> Source for DropClass<S> as DropClassSource {
 
     fn next(&mut self) -> Result<Option<Token>, Fault> {
         while let Some(token) = self.below.next()? {
-            if token.class as u8 != self.class {
+            if token.class.number() != self.class {
                 return Ok(Some(token));
             }
         }

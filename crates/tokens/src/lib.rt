@@ -1,8 +1,12 @@
 // Tokens, faults, the trait of token sources, the source of prose, and the layers over any source.
-pub mod token;
-pub mod source;
-pub mod text;
 pub mod bytes;
-pub mod prose;
 pub mod case;
 pub mod dropping;
+pub mod either;
+pub mod names;
+pub mod naming;
+pub mod onward;
+pub mod prose;
+pub mod source;
+pub mod text;
+pub mod token;

@@ -28,7 +28,10 @@ impl<'a> Text<'a> {
     {
         if file.len() > LIMIT {
             let ending = Some(fault_of_file(Cause::TooLong, 0));
-            return Text { bytes: &file[0..0], ending };
+            return Text {
+                bytes: &file[0..0],
+                ending,
+            };
         }
         let end = before_zero(file);
         let ending = if end < file.len() {

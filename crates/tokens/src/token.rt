@@ -1,6 +1,6 @@
 // What a source hands out: tokens, and the fault that may end its list.
 ghost use mathlib.Core.Path.{_≡_};
-ghost use Rattle.tokens.specs.Tokens.{same};
+ghost use Rattle.tokens.specs.Tokens.{class-number, cause-number, same};
 
 // What kind of text a token stands for. `Unused` is the class of an entry of a token list that
 // holds no token: all its numbers are 0, and no source hands it out.
@@ -17,6 +17,14 @@ pub enum Class {
     Quoted = 8,
     Comment = 9,
     Made = 10,
+}
+
+impl Class {
+    pub fn number(self) -> u8
+        ensures { λ r. ⌜ r ≡ class-number self ⌝ }
+    {
+        self as u8
+    }
 }
 
 // A token covers the bytes of the file from `from` up to, without, `to`.
@@ -49,6 +57,14 @@ pub enum Cause {
     Seventh = 7,
     Eighth = 8,
     Ninth = 9,
+}
+
+impl Cause {
+    pub fn number(self) -> u8
+        ensures { λ r. ⌜ r ≡ cause-number self ⌝ }
+    {
+        self as u8
+    }
 }
 
 // What ended a list early, at which byte of the file, and how many layers above the file it was found.
