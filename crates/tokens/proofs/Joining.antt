@@ -14,11 +14,11 @@ use Rattle.std.specs.declared.option.Option.the-variants.{Some, None}
 use Rattle.std.proofs.shelf.Tests.{cond-both, cond-true, cond-false, and-parts, and-from, and-left, and-right, leb-true, le-leb, ltb-true, ltb-false, lt-ltb, le-ltb, eqb-true, ne-eqb, eq-eqb}
 use Rattle.tokens.specs.declared.token.Token.{Token}
 use Rattle.tokens.specs.declared.token.Fault.{Fault}
-use Rattle.tokens.specs.Tokens.{limit, class-number, Sound, Placed-from}
+use Rattle.tokens.specs.Tokens.{limit, class-number, Sound, sound, Placed-from}
 use Rattle.tokens.specs.Layers.{has-class}
 use Rattle.tokens.specs.Names.{starts-name, goes-on, too-many, name-end, whole-name, named-after, named, long-name, named-ending, fits-before}
 use Rattle.tokens.specs.Naming.{unless-stopped}
-use Rattle.tokens.proofs.Placing.{placed-weaker}
+use Rattle.tokens.proofs.Placing.{placed-weaker, sound-from, sound-means}
 
 -- ---- how far a name goes
 
@@ -45,28 +45,10 @@ front-off to t ts e =
 -- ---- a token that is read ahead
 
 pub fits-from : (reached : ℕ) (t : Token) → Sound t → t .to ≤ reached → fits-before reached (Some t) ≡ true
-fits-from reached t s h =
-    and-from _ _ (and-from _ _ (le-leb 1 (t .code) (s .code-from)) (le-leb (t .code) 1023 (s .code-to)))
-    (and-from _ _ (le-leb 1 (class-number (t .class)) (s .class-from))
-    (and-from _ _ (lt-ltb (t .from) (t .to) (s .covers))
-    (and-from _ _ (le-leb (t .to) limit (s .within)) (le-leb (t .to) reached h))))
+fits-from reached t s h = and-from (sound t) (leb (t .to) reached) (sound-from t s) (le-leb (t .to) reached h)
 
 pub fits-means : (reached : ℕ) (t : Token) → fits-before reached (Some t) ≡ true → Sound t × (t .to ≤ reached)
-fits-means reached t e =
-    let a = and-parts (leb 1 (t .code) && leb (t .code) 1023) _ e in
-    let b = and-parts (leb 1 (t .code)) _ (a .0) in
-    let c = and-parts (leb 1 (class-number (t .class))) _ (a .1) in
-    let d = and-parts (ltb (t .from) (t .to)) _ (c .1) in
-    let f = and-parts (leb (t .to) limit) _ (d .1) in (
-      record {
-        code-from = leb-true 1 (t .code) (b .0);
-        code-to = leb-true (t .code) 1023 (b .1);
-        class-from = leb-true 1 (class-number (t .class)) (c .0);
-        covers = ltb-true (t .from) (t .to) (d .0);
-        within = leb-true (t .to) limit (f .0);
-      },
-      leb-true (t .to) reached (f .1),
-    )
+fits-means reached t e = let h = and-parts (sound t) (leb (t .to) reached) e in (sound-means t (h .0), leb-true (t .to) reached (h .1))
 
 -- ---- what is joined
 

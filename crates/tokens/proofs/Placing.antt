@@ -1,14 +1,15 @@
 -- Lists of tokens that are well placed.
-use mathlib.Core.Path.{_≡_}
-use mathlib.Core.Bool.{Bool, true, false, cond}
+use mathlib.Core.Path.{_≡_, refl}
+use mathlib.Core.Bool.{Bool, true, false, cond, _&&_}
+use lib.Dec.{leb, ltb}
 use mathlib.Core.List.{List, [], _∷_}
 use Prim.Native.Nat.{ℕ, zero, suc, _≤_, _<_}
 use native.Mathlib.Omega.{arith}
 use lib.ListN.{length, drop}
-use Rattle.std.proofs.shelf.Tests.{cond-both}
+use Rattle.std.proofs.shelf.Tests.{cond-both, and-parts, and-from, leb-true, le-leb, ltb-true, lt-ltb}
 use Rattle.std.specs.shelf.Lists.{kept-by}
 use Rattle.tokens.specs.declared.token.Token.{Token}
-use Rattle.tokens.specs.Tokens.{Sound, Placed-from, rest}
+use Rattle.tokens.specs.Tokens.{limit, class-number, Sound, sound, Placed-from, placed-from, rest}
 
 pub placed-weaker : (a b : ℕ) (ts : List Token) → b ≤ a → Placed-from a ts → Placed-from b ts
 placed-weaker a b [] h p = tt
@@ -36,3 +37,37 @@ placed-kept test a (t ∷ ts) p =
 pub placed-rest : (a : ℕ) (ts : List Token) → Placed-from a ts → Placed-from a (rest ts)
 placed-rest a [] p = p
 placed-rest a (t ∷ ts) p = placed-tail a t ts p
+
+-- ---- the tests
+
+pub sound-from : (t : Token) → Sound t → sound t ≡ true
+sound-from t s =
+    and-from _ _ (and-from _ _ (le-leb 1 (t .code) (s .code-from)) (le-leb (t .code) 1023 (s .code-to)))
+    (and-from _ _ (le-leb 1 (class-number (t .class)) (s .class-from))
+    (and-from _ _ (lt-ltb (t .from) (t .to) (s .covers)) (le-leb (t .to) limit (s .within))))
+
+pub sound-means : (t : Token) → sound t ≡ true → Sound t
+sound-means t e =
+    let a = and-parts (leb 1 (t .code) && leb (t .code) 1023) _ e in
+    let b = and-parts (leb 1 (t .code)) _ (a .0) in
+    let c = and-parts (leb 1 (class-number (t .class))) _ (a .1) in
+    let d = and-parts (ltb (t .from) (t .to)) _ (c .1) in
+    record {
+      code-from = leb-true 1 (t .code) (b .0);
+      code-to = leb-true (t .code) 1023 (b .1);
+      class-from = leb-true 1 (class-number (t .class)) (c .0);
+      covers = ltb-true (t .from) (t .to) (d .0);
+      within = leb-true (t .to) limit (d .1);
+    }
+
+pub placed-tested : (a : ℕ) (ts : List Token) → Placed-from a ts → placed-from a ts ≡ true
+placed-tested a [] p = refl
+placed-tested a (t ∷ ts) p =
+    and-from (sound t) _ (sound-from t (p .0)) (and-from (leb a (t .from)) _ (le-leb a (t .from) (p .1)) (placed-tested (t .to) ts (p .2)))
+
+pub placed-means : (a : ℕ) (ts : List Token) → placed-from a ts ≡ true → Placed-from a ts
+placed-means a [] e = tt
+placed-means a (t ∷ ts) e =
+    let f = and-parts (sound t) _ e in
+    let h = and-parts (leb a (t .from)) _ (f .1) in
+    (sound-means t (f .0), leb-true a (t .from) (h .0), placed-means (t .to) ts (h .1))

@@ -7,3 +7,4 @@ pub mod Sides
 pub mod Onwards
 pub mod Names
 pub mod Naming
+pub mod Collecting

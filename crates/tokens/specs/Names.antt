@@ -10,7 +10,7 @@ use Rattle.tokens.specs.declared.token.Class.the-variants.{Made}
 use Rattle.tokens.specs.declared.token.Cause.the-variants.{LongName}
 use Rattle.tokens.specs.declared.token.Token.{Token}
 use Rattle.tokens.specs.declared.token.Fault.{Fault}
-use Rattle.tokens.specs.Tokens.{limit, class-number}
+use Rattle.tokens.specs.Tokens.{sound}
 use Rattle.tokens.specs.Layers.{has-class}
 
 abbrev pub starts-name : Token → Bool
@@ -56,5 +56,4 @@ named-ending depth (t ∷ ts) e = cond (starts-name t && too-many ts) (Some (lon
 -- its numbers are in range, and it ends where the source below has come to or before
 abbrev pub fits-before : ℕ → Option Token → Bool
 fits-before reached None = true
-fits-before reached (Some t) =
-    (leb 1 (t .code) && leb (t .code) 1023) && (leb 1 (class-number (t .class)) && (ltb (t .from) (t .to) && (leb (t .to) limit && leb (t .to) reached)))
+fits-before reached (Some t) = sound t && leb (t .to) reached

@@ -1,9 +1,9 @@
 -- What tokens are, when two are the same, and what the list of a source looks like.
 use mathlib.Core.Path.{_≡_}
-use mathlib.Core.Bool.{Bool}
+use mathlib.Core.Bool.{Bool, true, _&&_}
 use mathlib.Core.List.{List, [], _∷_}
 use Prim.Native.Nat.{ℕ, _≤_, _<_}
-use lib.Dec.{eqb}
+use lib.Dec.{eqb, leb, ltb}
 use Rattle.std.specs.declared.option.Option.{Option}
 use Rattle.std.specs.declared.option.Option.the-variants.{Some, None}
 use Rattle.std.specs.declared.result.Result.{Result}
@@ -57,6 +57,10 @@ pub record Sound (t : Token) : Type 0 where
   pub covers : t .from < t .to
   pub within : t .to ≤ limit
 
+-- the same as a test
+abbrev pub sound : Token → Bool
+sound t = (leb 1 (t .code) && leb (t .code) 1023) && (leb 1 (class-number (t .class)) && (ltb (t .from) (t .to) && leb (t .to) limit))
+
 -- each token is sound and begins at or after the end of the one before it, the first at or after `at`
 abbrev pub Placed-from : ℕ → List Token → Type 0
 Placed-from at [] = Unit {0}
@@ -64,6 +68,11 @@ Placed-from at (t ∷ ts) = Sound t × (at ≤ t .from) × Placed-from (t .to) t
 
 abbrev pub Placed : List Token → Type 0
 Placed ts = Placed-from 0 ts
+
+-- the same as a test
+abbrev pub placed-from : ℕ → List Token → Bool
+placed-from at [] = true
+placed-from at (t ∷ ts) = sound t && (leb at (t .from) && placed-from (t .to) ts)
 
 -- what a source with these tokens to come, and this ending, answers next
 abbrev pub first : List Token → Option Fault → Result (Option Token) Fault
