@@ -1,0 +1,2 @@
+pub mod Piling
+pub mod Wording

@@ -1,0 +1,40 @@
+-- What a pile of layers makes of a file.
+use mathlib.Core.List.{List, [], _∷_}
+use Prim.Native.Nat.{ℕ}
+use Rattle.std.specs.declared.option.Option.{Option}
+use Rattle.tokens.specs.declared.token.Token.{Token}
+use Rattle.tokens.specs.declared.token.Fault.{Fault}
+use Rattle.tokens.specs.declared.collected.Collected.{Collected}
+use Rattle.tokens.specs.Texts.{text-read, text-ending}
+use Rattle.tokens.specs.Proses.{prose-tokens}
+use Rattle.tokens.specs.Layers.{deeper, lowered, without}
+use Rattle.tokens.specs.Names.{named, named-ending}
+use Rattle.tokens.specs.Collecting.{collected-left}
+use Rattle.piles.specs.declared.pile.Reader.{Reader}
+use Rattle.piles.specs.declared.pile.Reader.the-variants.{Prose}
+use Rattle.piles.specs.declared.pile.Layer.{Layer}
+use Rattle.piles.specs.declared.pile.Layer.the-variants.{Case, Drop, Names}
+
+-- what a source stands for
+pub record Stream : Type 0 where
+  pub tokens : List Token
+  pub ending : Option Fault
+  pub depth : ℕ
+
+abbrev pub stream : Collected → Stream
+stream c = record { tokens = collected-left c; ending = c .ending; depth = c .depth }
+
+-- a file as its reader reads it
+abbrev pub read-as : Reader → List ℕ → Stream
+read-as Prose file = record { tokens = prose-tokens (text-read file); ending = text-ending file; depth = 0 }
+
+-- a layer over what is below it
+abbrev pub put-on : Layer → Stream → Stream
+put-on Case s = record { tokens = lowered (s .tokens); ending = s .ending; depth = deeper (s .depth) }
+put-on (Drop class) s = record { tokens = without class (s .tokens); ending = s .ending; depth = deeper (s .depth) }
+put-on Names s = record { tokens = named (s .tokens); ending = named-ending (deeper (s .depth)) (s .tokens) (s .ending); depth = deeper (s .depth) }
+
+-- the layers in their order, the first one lowest
+abbrev pub piled : List Layer → Stream → Stream
+piled [] s = s
+piled (l ∷ ls) s = piled ls (put-on l s)
