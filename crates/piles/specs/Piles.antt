@@ -5,7 +5,7 @@ use Rattle.std.specs.declared.option.Option.{Option}
 use Rattle.tokens.specs.declared.token.Token.{Token}
 use Rattle.tokens.specs.declared.token.Fault.{Fault}
 use Rattle.tokens.specs.declared.collected.Collected.{Collected}
-use Rattle.tokens.specs.Texts.{text-read, text-ending}
+use Rattle.tokens.specs.Texts.{text-ending}
 use Rattle.tokens.specs.Proses.{prose-tokens}
 use Rattle.tokens.specs.Layers.{deeper, lowered, without}
 use Rattle.tokens.specs.Names.{named, named-ending}
@@ -26,7 +26,7 @@ stream c = record { tokens = collected-left c; ending = c .ending; depth = c .de
 
 -- a file as its reader reads it
 abbrev pub read-as : Reader → List ℕ → Stream
-read-as Prose file = record { tokens = prose-tokens (text-read file); ending = text-ending file; depth = 0 }
+read-as Prose file = record { tokens = prose-tokens file; ending = text-ending file 0; depth = 0 }
 
 -- a layer over what is below it
 abbrev pub put-on : Layer → Stream → Stream

@@ -1,5 +1,5 @@
-pub mod Plain
 pub mod Placing
+pub mod Texts
 pub mod Proses
 pub mod Layers
 pub mod Onwards

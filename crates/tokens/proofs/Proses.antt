@@ -2,49 +2,54 @@
 use mathlib.Core.Path.{_≡_, refl, sym, ap, subst, _∙_}
 use mathlib.Core.Bool.{Bool, true, false, cond}
 use mathlib.Core.List.{List, [], _∷_, map}
+use mathlib.Core.Logic.{⊎-elim}
 use Prim.Native.Nat.{ℕ, zero, suc, _+_, _≤_, _<_}
 use native.Mathlib.Omega.{arith}
-use lib.ListN.{length, drop, getD}
+use lib.ListN.{getD}
 use Rattle.std.specs.Iters.{counting}
-use Rattle.std.proofs.shelf.Counted.{length-map-counting, getD-map-counting}
-use Rattle.std.proofs.shelf.Lists.{drop-all, drop-more}
-use Rattle.std.proofs.shelf.Tests.{cond-both}
+use Rattle.std.proofs.shelf.Tests.{cond-both, cases-eq}
 use Rattle.tokens.specs.declared.token.Class.{Class}
 use Rattle.tokens.specs.declared.token.Class.the-variants.{Blank, NameFirst, NameFurther, NumberFirst, NumberFurther, Mark}
 use Rattle.tokens.specs.declared.token.Token.{Token}
 use Rattle.tokens.specs.Bytes.{is-blank, is-letter, is-digit}
-use Rattle.tokens.specs.Texts.{plain}
+use Rattle.tokens.specs.Texts.{readable}
 use Rattle.tokens.specs.Tokens.{class-number, limit, Placed-from}
-use Rattle.tokens.specs.Proses.{begins, prose-class, prose-token, prose-tokens}
-use Rattle.tokens.proofs.Plain.{plain-at}
-use Rattle.tokens.proofs.Placing.{placed-drop}
+use Rattle.tokens.specs.Proses.{begins, prose-class, prose-token, prose-from}
+use Rattle.tokens.proofs.Texts.{reads-within, reads-some}
+use Rattle.tokens.proofs.Placing.{placed-weaker}
 
-pub prose-length : (text : List ℕ) → length (prose-tokens text) ≡ length text
-prose-length text = length-map-counting (prose-token text) 0 (length text)
+pub prose-more : (file : List ℕ) (i : ℕ) → readable file i ≡ suc (readable file (i + 1)) → prose-from file i ≡ prose-token file i ∷ prose-from file (i + 1)
+prose-more file i e = ap (λ n. map (prose-token file) (counting i n)) e
 
-pub prose-more : (text : List ℕ) (i : ℕ) → i < length text → drop i (prose-tokens text) ≡ prose-token text i ∷ drop (i + 1) (prose-tokens text)
-prose-more text i h =
-    let at = prose-token text i in
-    let short : i < length (prose-tokens text) = omega (arith, prose-length text) in
-    drop-more (prose-tokens text) i at short ∙ ap (λ t. t ∷ drop (i + 1) (prose-tokens text)) (getD-map-counting (prose-token text) 0 (length text) i i at h (omega arith))
-
-pub prose-none : (text : List ℕ) (i : ℕ) → length text ≤ i → drop i (prose-tokens text) ≡ []
-prose-none text i h = drop-all i (prose-tokens text) (omega (arith, prose-length text))
+pub prose-none : (file : List ℕ) (i : ℕ) → readable file i ≡ 0 → prose-from file i ≡ []
+prose-none file i e = ap (λ n. map (prose-token file) (counting i n)) e
 
 -- prose has no token of class 0
-classed : (text : List ℕ) (i : ℕ) → 1 ≤ class-number (prose-class text i)
-classed text i =
+classed : (file : List ℕ) (i : ℕ) → 1 ≤ class-number (prose-class file i)
+classed file i =
     let P : Class → Type 0 = λ c. 1 ≤ class-number c in
-    let b = getD text i 0 in
+    let b = getD file i 0 in
     cond-both (is-blank b) _ _ P (λ _. omega arith)
-    (λ _. cond-both (is-letter b) _ _ P (λ _. cond-both (begins is-letter text i) _ _ P (λ _. omega arith) (λ _. omega arith))
-    (λ _. cond-both (is-digit b) _ _ P (λ _. cond-both (begins is-digit text i) _ _ P (λ _. omega arith) (λ _. omega arith)) (λ _. omega arith)))
+    (λ _. cond-both (is-letter b) _ _ P (λ _. cond-both (begins is-letter file i) _ _ P (λ _. omega arith) (λ _. omega arith))
+    (λ _. cond-both (is-digit b) _ _ P (λ _. cond-both (begins is-digit file i) _ _ P (λ _. omega arith) (λ _. omega arith)) (λ _. omega arith)))
 
-placed-along : (text : List ℕ) (a n : ℕ) → plain text ≡ true → length text ≤ limit → a + n ≤ length text → Placed-from a (map (prose-token text) (counting a n))
-placed-along text a zero p short h = tt
-placed-along text a (suc n) p short h =
-    let byte = plain-at text a (omega arith) p in
-    (record { code-from = omega (arith, byte .0); code-to = omega (arith, byte .1); class-from = classed text a; covers = omega arith; within = omega arith }, omega arith, placed-along text (a + 1) n p short (omega arith))
+-- each of the n bytes from a on is a byte above 0, within the limit
+placed-along : (file : List ℕ) (a n : ℕ) → ((d : ℕ) → d < n → (1 ≤ getD file (a + d) 0) × (getD file (a + d) 0 ≤ 255)) → a + n ≤ limit → Placed-from a (map (prose-token file) (counting a n))
+placed-along file a zero bytes h = tt
+placed-along file a (suc n) bytes h =
+    let here : a + 0 ≡ a = omega arith in
+    let byte : (1 ≤ getD file a 0) × (getD file a 0 ≤ 255) = subst (λ k. (1 ≤ getD file k 0) × (getD file k 0 ≤ 255)) here (bytes 0 (omega arith)) in
+    let later : (d : ℕ) → d < n → (1 ≤ getD file ((a + 1) + d) 0) × (getD file ((a + 1) + d) 0 ≤ 255) = λ d less.
+    let there : a + (d + 1) ≡ (a + 1) + d = omega arith in
+    subst (λ k. (1 ≤ getD file k 0) × (getD file k 0 ≤ 255)) there (bytes (d + 1) (omega arith)) in
+    (record { code-from = byte .0; code-to = omega (arith, byte .1); class-from = classed file a; covers = omega arith; within = omega arith }, omega arith, placed-along file (a + 1) n later (omega arith))
 
-pub prose-placed : (text : List ℕ) (i : ℕ) → plain text ≡ true → length text ≤ limit → Placed-from 0 (drop i (prose-tokens text))
-prose-placed text i p short = placed-drop i 0 (prose-tokens text) (placed-along text 0 (length text) p short (omega arith))
+pub prose-placed : (file : List ℕ) (i : ℕ) → ((k : ℕ) → getD file k 0 ≤ 255) → Placed-from 0 (prose-from file i)
+prose-placed file i bytes =
+    ⊎-elim
+    (λ none. subst (Placed-from 0) (sym (prose-none file i none)) tt)
+    (λ ne.
+    let within = reads-within file i (omega (arith, ne)) in
+    let each : (d : ℕ) → d < readable file i → (1 ≤ getD file (i + d) 0) × (getD file (i + d) 0 ≤ 255) = λ d less. (omega (arith, reads-some file i d less), bytes (i + d)) in
+    placed-weaker i 0 (prose-from file i) (omega arith) (placed-along file i (readable file i) each (omega (arith, within .0, within .1))))
+    (cases-eq (readable file i) 0)

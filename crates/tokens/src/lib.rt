@@ -10,5 +10,4 @@ pub mod naming;
 pub mod onward;
 pub mod prose;
 pub mod source;
-pub mod text;
 pub mod token;

@@ -2,6 +2,9 @@
 ghost use mathlib.Core.Path.{_≡_};
 ghost use Rattle.tokens.specs.Tokens.{class-number, cause-number, same};
 
+// The largest file, in bytes.
+pub const LIMIT: usize = 1_048_576;
+
 // What kind of text a token stands for. `Unused` is the class of an entry of a token list that
 // holds no token: all its numbers are 0, and no source hands it out.
 #[derive(Clone, Copy)]
@@ -73,4 +76,15 @@ pub struct Fault {
     pub cause: Cause,
     pub place: u32,
     pub depth: u8,
+}
+
+// A fault found in the file itself, below every layer.
+pub fn file_fault(cause: Cause, place: u32) -> Fault
+    ensures { λ r. ⌜ r ≡ record { cause = cause; place = place; depth = 0 } ⌝ }
+{
+    Fault {
+        cause,
+        place,
+        depth: 0,
+    }
 }

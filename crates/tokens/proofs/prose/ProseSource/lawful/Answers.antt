@@ -3,6 +3,4 @@ use Rattle.tokens.proofs.Proses.{prose-placed}
 use Rattle.tokens.proofs.prose.ProseSource.lawful.Needs as need
 
 pub returns : need.returns
-returns c =
-    let text = c .args .self .now .text in
-    record { placed = prose-placed (text .bytes .now) (c .args .self .now .at) (text .plain) (text .within); shallow = omega arith }
+returns c = record { placed = prose-placed (c .args .self .now .file .now) (c .args .self .now .at) (c .are-bytes .ensures); shallow = omega arith }
