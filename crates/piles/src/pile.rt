@@ -11,7 +11,7 @@ use tokens::collecting::CollectedSource;
 use tokens::dropping::DropClass;
 use tokens::dropping::DropClassSource;
 use tokens::names::Names;
-use tokens::naming::NamesSource;
+use tokens::names::NamesSource;
 use tokens::prose::Prose;
 use tokens::prose::ProseSource;
 

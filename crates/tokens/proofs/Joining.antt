@@ -8,7 +8,6 @@ use native.Mathlib.Numerals.{one-add}
 use lib.Dec.{eqb, leb, ltb}
 use lib.ListN.{length, drop}
 use Rattle.std.specs.shelf.Lists.{leading}
-use Rattle.std.specs.Vec.{listOf}
 use Rattle.std.specs.declared.option.Option.{Option}
 use Rattle.std.specs.declared.option.Option.the-variants.{Some, None}
 use Rattle.std.proofs.shelf.Tests.{cond-both, cond-true, cond-false, and-parts, and-from, and-left, and-right, leb-true, le-leb, ltb-true, ltb-false, lt-ltb, le-ltb, eqb-true, ne-eqb, eq-eqb}
@@ -16,8 +15,8 @@ use Rattle.tokens.specs.declared.token.Token.{Token}
 use Rattle.tokens.specs.declared.token.Fault.{Fault}
 use Rattle.tokens.specs.Tokens.{limit, class-number, Sound, sound, Placed-from}
 use Rattle.tokens.specs.Layers.{has-class}
-use Rattle.tokens.specs.Names.{starts-name, goes-on, too-many, name-end, whole-name, named-after, named, long-name, named-ending, fits-before}
-use Rattle.tokens.specs.Naming.{unless-stopped}
+use Rattle.tokens.specs.Names.{starts-name, goes-on, too-many, name-end, whole-name, named-after, named, long-name, named-ending}
+use Rattle.tokens.specs.Naming.{fits-before, ahead, unless-stopped}
 use Rattle.tokens.proofs.Placing.{placed-weaker, sound-from, sound-means}
 
 -- ---- how far a name goes
@@ -44,10 +43,10 @@ front-off to t ts e =
 
 -- ---- a token that is read ahead
 
-pub fits-from : (reached : ℕ) (t : Token) → Sound t → t .to ≤ reached → fits-before reached (Some t) ≡ true
-fits-from reached t s h = and-from (sound t) (leb (t .to) reached) (sound-from t s) (le-leb (t .to) reached h)
+pub fits-from : (reached : ℕ) (t : Token) → Sound t → t .to ≤ reached → ahead reached (Some t) ≡ t ∷ []
+fits-from reached t s h = cond-true (fits-before reached t) _ _ (and-from (sound t) (leb (t .to) reached) (sound-from t s) (le-leb (t .to) reached h))
 
-pub fits-means : (reached : ℕ) (t : Token) → fits-before reached (Some t) ≡ true → Sound t × (t .to ≤ reached)
+fits-means : (reached : ℕ) (t : Token) → fits-before reached t ≡ true → Sound t × (t .to ≤ reached)
 fits-means reached t e = let h = and-parts (sound t) (leb (t .to) reached) e in (sound-means t (h .0), leb-true (t .to) reached (h .1))
 
 -- ---- what is joined
@@ -138,9 +137,12 @@ placed-named a ts p = placed-joined ts .all false a p
 
 -- ---- the state of the layer
 
-pub placed-pending : (reached : ℕ) (held : Option Token) (ts : List Token) → fits-before reached held ≡ true → Placed-from reached ts → Placed-from 0 (listOf held ++ ts)
-placed-pending reached None ts f p = placed-weaker reached 0 ts (omega arith) p
-placed-pending reached (Some t) ts f p = let h = fits-means reached t f in (h .0, omega arith, placed-weaker reached (t .to) ts (h .1) p)
+pub placed-pending : (reached : ℕ) (held : Option Token) (ts : List Token) → Placed-from reached ts → Placed-from 0 (ahead reached held ++ ts)
+placed-pending reached None ts p = placed-weaker reached 0 ts (omega arith) p
+placed-pending reached (Some t) ts p =
+    cond-both (fits-before reached t) (t ∷ []) [] (λ xs. Placed-from 0 (xs ++ ts))
+    (λ e. let h = fits-means reached t e in (h .0, omega arith, placed-weaker reached (t .to) ts (h .1) p))
+    (λ _. placed-weaker reached 0 ts (omega arith) p)
 
 pub placed-unless : (stopped : Option Fault) (xs : List Token) → Placed-from 0 xs → Placed-from 0 (unless-stopped stopped xs [])
 placed-unless None xs p = p

@@ -2,7 +2,7 @@
 use mathlib.Core.Bool.{Bool, true, false, cond, _&&_}
 use mathlib.Core.List.{List, [], _∷_}
 use Prim.Native.Nat.{ℕ, _+_}
-use lib.Dec.{leb, ltb}
+use lib.Dec.{ltb}
 use Rattle.std.specs.shelf.Lists.{leading}
 use Rattle.std.specs.declared.option.Option.{Option}
 use Rattle.std.specs.declared.option.Option.the-variants.{Some, None}
@@ -10,7 +10,6 @@ use Rattle.tokens.specs.declared.token.Class.the-variants.{Made}
 use Rattle.tokens.specs.declared.token.Cause.the-variants.{LongName}
 use Rattle.tokens.specs.declared.token.Token.{Token}
 use Rattle.tokens.specs.declared.token.Fault.{Fault}
-use Rattle.tokens.specs.Tokens.{sound}
 use Rattle.tokens.specs.Layers.{has-class}
 
 abbrev pub starts-name : Token → Bool
@@ -50,10 +49,3 @@ long-name depth t = record { cause = LongName; place = t .from; depth = depth }
 abbrev pub named-ending : ℕ → List Token → Option Fault → Option Fault
 named-ending depth [] e = e
 named-ending depth (t ∷ ts) e = cond (starts-name t && too-many ts) (Some (long-name depth t)) (named-ending depth ts e)
-
--- ---- a token that the layer has read ahead
-
--- its numbers are in range, and it ends where the source below has come to or before
-abbrev pub fits-before : ℕ → Option Token → Bool
-fits-before reached None = true
-fits-before reached (Some t) = sound t && leb (t .to) reached

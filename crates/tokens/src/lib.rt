@@ -6,7 +6,6 @@ pub mod collecting;
 pub mod dropping;
 pub mod either;
 pub mod names;
-pub mod naming;
 pub mod onward;
 pub mod prose;
 pub mod source;

@@ -1,6 +1,6 @@
 // What a source hands out: tokens, and the fault that may end its list.
 ghost use mathlib.Core.Path.{_≡_};
-ghost use Rattle.tokens.specs.Tokens.{class-number, cause-number, same};
+ghost use Rattle.tokens.specs.Tokens.{class-number, cause-number, same, sound};
 
 // The largest file, in bytes.
 pub const LIMIT: usize = 1_048_576;
@@ -40,6 +40,18 @@ pub struct Token {
 }
 
 impl Token {
+    // Whether the numbers are in range and cover a byte or more of a file.
+    pub fn is_sound(&self) -> bool
+        ensures { λ r. ⌜ r ≡ sound (now (self .entry)) ⌝ }
+    {
+        let class = self.class.number();
+        1 <= self.code
+            && self.code <= 1023
+            && 1 <= class
+            && self.from < self.to
+            && self.to as usize <= LIMIT
+    }
+
     // Whether two tokens count as equal, which runs and passages are made of.
     pub fn same(&self, other: &Token) -> bool
         ensures { λ r. ⌜ r ≡ same (now (self .entry)) (now (other .entry)) ⌝ }

@@ -13,7 +13,7 @@ use tokens::dropping::DropClassSource;
 use tokens::either::Either;
 use tokens::either::EitherSource;
 use tokens::names::Names;
-use tokens::naming::NamesSource;
+use tokens::names::NamesSource;
 use tokens::prose::Prose;
 use tokens::prose::ProseSource;
 use tokens::source::Source;
@@ -183,11 +183,14 @@ fn depth_stays_at_255(rt: LibcRuntime) -> Result<(), Fail> {
 
 #[test]
 fn a_sum_is_either() -> Result<(), Fail> {
-    let mut left = Either::<Prose<'_>, Case<Prose<'_>>>::Left(Prose::new(b"A"));
-    let mut right = Either::<Prose<'_>, Case<Prose<'_>>>::Right(Case::over(Prose::new(b"A")));
-    check(left.depth() == 0 && right.depth() == 1)?;
+    let mut left = Either::<Prose<'_>, Names<Case<Prose<'_>>>>::Left(Prose::new(b"A"));
+    let mut right = Either::<
+        Prose<'_>,
+        Names<Case<Prose<'_>>>,
+    >::Right(Names::over(Case::over(Prose::new(b"A"))));
+    check(left.depth() == 0 && right.depth() == 2)?;
     check(code(&mut left) == Some(65))?;
-    check(code(&mut right) == Some(97))?;
+    check(code(&mut right) == Some(300))?;
     // At the end the answer is the same every time.
     check(code(&mut left).is_none() && code(&mut left).is_none())
 }

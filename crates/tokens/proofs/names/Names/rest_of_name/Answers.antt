@@ -1,5 +1,5 @@
 use mathlib.Core.Path.{_≡_, refl, sym, ap, subst, _∙_}
-use mathlib.Core.List.{_∷_}
+use mathlib.Core.List.{_∷_, _++_}
 use native.Mathlib.Omega.{arith}
 use Prim.Native.Nat.{_+_, _≤_}
 use lib.ListN.{drop}
@@ -13,16 +13,6 @@ use Rattle.tokens.proofs.Streams.{first-some}
 use Rattle.tokens.proofs.Joining.{Front, front-on, front-off, fits-from}
 use Rattle.tokens.proofs.names.Names.rest_of_name.Needs as need
 
-pub ghost-self : need.ghost-self
-ghost-self g c =
-    let t = c .in-Ok-Some .token in
-    let old = onward (c .loop-token .self .below .reached) (g .S·Source .tokens (c .loop-token .self .below .below)) in
-    let h = c .in-Ok-Some .ensures tt .answer in
-    let came : Ok (Some t) ≡ first old (g .S·Source .ending (c .loop-token .self .below .below)) = cc in
-    let placed = subst (Placed-from (c .loop-token .self .below .reached)) (first-some old _ t came) (c .lawful .ensures) in
-    let reached : c .next .last .self .reached ≡ t .to = c .next .ensures .reaches ∙ ap (λ r. reached-by r (c .loop-token .self .below .reached)) (c .next .ensures .answer ∙ sym came) in
-    (fits-from (c .next .last .self .reached) t (placed .0) (omega arith), tt)
-
 pub returns-then-not-goes-on : need.returns-then-not-goes-on
 returns-then-not-goes-on g c =
     let t = c .in-Ok-Some .token in
@@ -31,10 +21,13 @@ returns-then-not-goes-on g c =
     let h = c .in-Ok-Some .ensures tt .answer in
     let came : Ok (Some t) ≡ first old (g .S·Source .ending (c .loop-token .self .below .below)) = cc in
     let split : old ≡ t ∷ new = first-some old _ t came ∙ ap (λ xs. t ∷ xs) (sym (c .next .ensures .left)) in
+    let placed = subst (Placed-from (c .loop-token .self .below .reached)) split (c .lawful .ensures) in
+    let reached : c .next .last .self .reached ≡ t .to = c .next .ensures .reaches ∙ ap (λ r. reached-by r (c .loop-token .self .below .reached)) (c .next .ensures .answer ∙ sym came) in
+    let held = fits-from (c .next .last .self .reached) t (placed .0) (omega arith) in
     let front = subst (λ xs. Front (c .loop-token .to) xs 0 (c .loop-token .to) (t ∷ new)) (sym split) (front-off (c .loop-token .to) t new ((sym (c .goes-on .ensures) ∙ c .if-not-goes-on .taken))) in
     let inv = c .loop-token .inv in
     record {
-      cases = (omega (arith, front .count, inv .1, inv .4), sym (front .ends) ∙ inv .3, sym (front .after) ∙ inv .2);
+      cases = (omega (arith, front .count, inv .1, inv .4), sym (front .ends) ∙ inv .3, ap (λ xs. xs ++ new) held ∙ sym (front .after) ∙ inv .2);
       stopped = inv .5;
       ending = c .next .ensures .ends ∙ inv .6;
       depth = c .next .ensures .stays ∙ inv .7;

@@ -10,7 +10,7 @@ use Rattle.tokens.specs.Names.{named, named-ending, whole-name}
 use Rattle.tokens.specs.Naming.{pending, names-left, names-ending}
 use Rattle.tokens.proofs.Streams.{first-some}
 use Rattle.tokens.proofs.Joining.{named-joined, ending-joined, going}
-use Rattle.tokens.proofs.naming.NamesSource.next.Needs as need
+use Rattle.tokens.proofs.names.NamesSource.next.Needs as need
 
 pub returns : need.returns
 returns g c =
