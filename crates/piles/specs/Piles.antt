@@ -7,8 +7,8 @@ use Rattle.tokens.specs.declared.token.Fault.{Fault}
 use Rattle.tokens.specs.declared.collected.Collected.{Collected}
 use Rattle.tokens.specs.Texts.{text-ending}
 use Rattle.tokens.specs.Proses.{prose-tokens}
-use Rattle.tokens.specs.Layers.{deeper, lowered, without}
-use Rattle.tokens.specs.Names.{named, named-ending}
+use Rattle.layers.specs.Layers.{deeper, lowered, without}
+use Rattle.layers.specs.Names.{named, named-ending}
 use Rattle.tokens.specs.Collecting.{collected-left}
 use Rattle.piles.specs.declared.pile.Reader.{Reader}
 use Rattle.piles.specs.declared.pile.Reader.the-variants.{Prose}

@@ -2,16 +2,16 @@
 ghost use mathlib.Core.Path.{_≡_};
 ghost use Rattle.std.specs.Vec.{made};
 ghost use Rattle.piles.specs.Piles.{stream, read-as, put-on, piled};
+use layers::case::Case;
+use layers::case::CaseSource;
+use layers::dropping::DropClass;
+use layers::dropping::DropClassSource;
+use layers::names::Names;
+use layers::names::NamesSource;
 use std::alloc::AllocError;
 use std::alloc::Global;
-use tokens::case::Case;
-use tokens::case::CaseSource;
 use tokens::collected::Collected;
 use tokens::collecting::CollectedSource;
-use tokens::dropping::DropClass;
-use tokens::dropping::DropClassSource;
-use tokens::names::Names;
-use tokens::names::NamesSource;
 use tokens::prose::Prose;
 use tokens::prose::ProseSource;
 

@@ -1,7 +1,4 @@
 pub mod Placing
 pub mod Texts
 pub mod Proses
-pub mod Layers
-pub mod Onwards
 pub mod Streams
-pub mod Joining

@@ -2,9 +2,5 @@ pub mod Tokens
 pub mod Texts
 pub mod Bytes
 pub mod Proses
-pub mod Layers
 pub mod Sides
-pub mod Onwards
-pub mod Names
-pub mod Naming
 pub mod Collecting

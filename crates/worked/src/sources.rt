@@ -1,19 +1,19 @@
 // Prose and the layers at their edges.
+use layers::case::Case;
+use layers::case::CaseSource;
+use layers::dropping::DropClass;
+use layers::dropping::DropClassSource;
+use layers::names::Names;
+use layers::names::NamesSource;
 use piles::pile::Layer;
 use piles::pile::Reader;
 use piles::pile::pile;
 use std::alloc::Global;
 use std::test::*;
-use tokens::case::Case;
-use tokens::case::CaseSource;
 use tokens::collected::Collected;
 use tokens::collecting::CollectedSource;
-use tokens::dropping::DropClass;
-use tokens::dropping::DropClassSource;
 use tokens::either::Either;
 use tokens::either::EitherSource;
-use tokens::names::Names;
-use tokens::names::NamesSource;
 use tokens::prose::Prose;
 use tokens::prose::ProseSource;
 use tokens::source::Source;

@@ -1,0 +1,4 @@
+pub mod Layers
+pub mod Onwards
+pub mod Names
+pub mod Naming

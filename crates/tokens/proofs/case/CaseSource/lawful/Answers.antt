@@ -1,6 +1,0 @@
-use native.Mathlib.Omega.{arith}
-use Rattle.tokens.proofs.Layers.{placed-lowered}
-use Rattle.tokens.proofs.case.CaseSource.lawful.Needs as need
-
-pub returns : need.returns
-returns g c = record { placed = placed-lowered 0 _ (c .lawful .ensures .placed); shallow = omega arith }

@@ -1,5 +1,0 @@
-use Rattle.tokens.proofs.Onwards.{onward-placed}
-use Rattle.tokens.proofs.onward.Onward.lawful.Needs as need
-
-pub returns : need.returns
-returns g c = onward-placed _ 0 _ (c .lawful .ensures .placed)

@@ -1,6 +1,0 @@
-use mathlib.Core.Path.{refl}
-use Rattle.tokens.proofs.Onwards.{onward-zero}
-use Rattle.tokens.proofs.onward.Onward.over.Needs as need
-
-pub returns : need.returns
-returns g c = record { tokens = onward-zero _; ending = refl; depth = refl }
