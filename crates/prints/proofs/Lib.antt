@@ -1,2 +1,4 @@
 pub mod Weights
 pub mod Turns
+pub mod Picks
+pub mod Windows

@@ -1,2 +1,5 @@
 pub mod Grams
 pub mod Hashes
+pub mod Choice
+pub mod Worked
+pub mod Window

@@ -1,7 +1,25 @@
 // Fingerprints: hashes of grams of codes, and the choice of places by winnowing.
 //
 // Hashes see codes only, and the choice sees ordered values only.
+ghost use Rattle.prints.specs.Choice.{Agrees};
+ghost use Rattle.prints.specs.Worked.{Worked};
+
 pub mod cyclic;
 pub mod hash;
 pub mod pair;
 pub mod polynomial;
+pub mod window;
+
+// For every order of values: the places that `chosen` computes are exactly those that are the rightmost smallest of some window.
+pub fn choice_agrees<V>() -> u8
+    ensures { λ _. ⌜ Agrees V ⌝ }
+{
+    0
+}
+
+// The definitions give the numbers that were worked by hand.
+pub fn worked_cases() -> u8
+    ensures { λ _. ⌜ Worked ⌝ }
+{
+    0
+}
