@@ -7,7 +7,8 @@ use Prim.Native.Nat.{ℕ, zero, suc, _+_, _≤_, _<_}
 use native.Mathlib.Omega.{arith}
 use lib.ListN.{length}
 use Rattle.std.specs.Iters.{counting}
-use Rattle.std.specs.Keys.{rank}
+use Rattle.std.specs.Keys.{rank, ranks}
+use Rattle.std.specs.Orderings.{Ranked}
 use Rattle.std.specs.shelf.Lists.{kept-by}
 use Rattle.std.proofs.shelf.Tests.{cond-both, lt-ltb, cond-true}
 use Rattle.std.specs.declared.cmp.Ordering.{Ordering}
@@ -84,3 +85,6 @@ rank-less a b h = cond-true _ _ _ (lt-ltb a b h)
 pub rising-counting : (a n : ℕ) → Rising rank (counting a n)
 rising-counting a zero = tt
 rising-counting a (suc n) = (λ y m. let h = counting-in (a + 1) n y m in rank-less a y (omega arith), rising-counting (a + 1) n)
+
+pub rank-lt : (a b : ℕ) → rank a b ≡ Less → a < b
+rank-lt a b e = subst (λ r. Ranked r (a < b) (a ≡ b) (b < a)) e (ranks a b)

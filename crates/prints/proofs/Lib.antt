@@ -2,3 +2,5 @@ pub mod Weights
 pub mod Turns
 pub mod Picks
 pub mod Windows
+pub mod Walks
+pub mod Onward

@@ -3,3 +3,4 @@ pub mod Hashes
 pub mod Choice
 pub mod Worked
 pub mod Window
+pub mod Walk

@@ -8,6 +8,7 @@ pub mod cyclic;
 pub mod hash;
 pub mod pair;
 pub mod polynomial;
+pub mod walk;
 pub mod window;
 
 // For every order of values: the places that `chosen` computes are exactly those that are the rightmost smallest of some window.
