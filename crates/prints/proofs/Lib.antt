@@ -4,3 +4,4 @@ pub mod Picks
 pub mod Windows
 pub mod Walks
 pub mod Onward
+pub mod Winnowed

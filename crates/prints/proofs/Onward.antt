@@ -83,6 +83,7 @@ module _ {H C V : Type 0} {hash : List ℕ → V} {cmp : V → V → Ordering} {
 
   -- nothing new was chosen
   pub onward-more : (x y z : Winnow H C V) (r : Option (Placed V)) → Onward hash cmp read x y → (a : Advanced hash cmp read y z r) → ((p : ℕ) → y .queue .width ≤ y .next + 1 → Rightmost cmp (row-of hash cmp read y) (y .next + 1 - y .queue .width) (y .queue .width) p → p < y .from) → Onward hash cmp read x z
+  unfolding remaining
   onward-more x y z r h a new =
       let from = a .from in
       record {
@@ -107,6 +108,7 @@ module _ {H C V : Type 0} {hash : List ℕ → V} {cmp : V → V → Ordering} {
 
     -- the window chooses a new place
     pub onward-found : (x y z : Winnow H C V) (best : Placed V) → Onward hash cmp read x y → Advanced hash cmp read y z (Some best) → y .from ≤ best .place → Handed hash cmp read x (with-from hash cmp read z (best .place + 1)) (Some best)
+    unfolding remaining
     onward-found x y z best h a le =
         let w = y .queue .width in
         let row = row-of hash cmp read y in
@@ -132,6 +134,7 @@ module _ {H C V : Type 0} {hash : List ℕ → V} {cmp : V → V → Ordering} {
 
     -- there are no more values
     pub onward-ends : (x y : Winnow H C V) → Onward hash cmp read x y → y .left ≤ 0 → Handed hash cmp read x y None
+    unfolding remaining
     onward-ends x y h none =
         let row = row-of hash cmp read y in
         let block = h .walking .going .queue .1 in

@@ -1,7 +1,7 @@
 -- Which places of a row of values are chosen (Winnowing, SIGMOD 2003). A row is a function from places to values and the number of its places. Assumes nothing.
 use mathlib.Core.Path.{_≡_}
 use mathlib.Core.Bool.{Bool, true, false, cond, _||_}
-use mathlib.Core.List.{List, map}
+use mathlib.Core.List.{List, [], map}
 use Prim.Native.Nat.{ℕ, zero, suc, _+_, _-_, _≤_, _<_}
 use lib.Dec.{eqb}
 use Rattle.std.specs.Iters.{counting}
@@ -61,3 +61,7 @@ fingerprints cmp w at n = map (at-place at) (chosen cmp w at n)
 abbrev pub Agrees : Type 0 → Type 0
 Agrees V =
     (cmp : V → V → Ordering) → TotalOrder cmp → (w : ℕ) → 0 < w → (at : ℕ → V) (n : ℕ) → ListsExactly rank (chosen cmp w at n) (Chosen cmp w at n)
+
+-- where there are fewer values than a window has, no place is chosen
+abbrev pub NoWindow : Type 0 → Type 0
+NoWindow V = (cmp : V → V → Ordering) → TotalOrder cmp → (w : ℕ) (at : ℕ → V) (n : ℕ) → n < w → chosen cmp w at n ≡ []

@@ -4,3 +4,4 @@ pub mod Choice
 pub mod Worked
 pub mod Window
 pub mod Walk
+pub mod Listed

@@ -27,7 +27,7 @@ abbrev pub value-at : {V : Type 0} → (List ℕ → V) → ℕ → List ℕ →
 value-at hash k cs i = hash (gram k cs i)
 
 -- the chosen places of a file's codes with their values, for grams of k codes and windows of w values
-abbrev pub winnowed : {V : Type 0} → (List ℕ → V) → (V → V → Ordering) → ℕ → ℕ → List ℕ → List (Placed V)
+unfoldable pub winnowed : {V : Type 0} → (List ℕ → V) → (V → V → Ordering) → ℕ → ℕ → List ℕ → List (Placed V)
 winnowed hash cmp k w cs = fingerprints cmp w (value-at hash k cs) (grams k cs)
 
 abbrev pub first : {X : Type 0} → List X → Option X
@@ -50,7 +50,7 @@ module _ {H C V : Type 0} (hash : List ℕ → V) (cmp : V → V → Ordering) (
   row-of x = value-at hash (x .k) (walked x)
 
   -- what it has yet to hand out: the chosen places from `from` on
-  abbrev pub remaining : Winnow H C V → List (Placed V)
+  unfoldable pub remaining : Winnow H C V → List (Placed V)
   remaining x = map (at-place (row-of x)) (kept-by (leb (x .from)) (chosen cmp (x .queue .width) (row-of x) (grams (x .k) (walked x))))
 
   -- it has pushed the values before `next`, and holds the one at `next` while there is one

@@ -6,11 +6,12 @@ use lib.Dec.{leb}
 use lib.ListN.{length}
 use Rattle.std.specs.shelf.Lists.{kept-by}
 use Rattle.prints.specs.Choice.{chosen, at-place}
-use Rattle.prints.specs.Walk.{value-at, grams}
+use Rattle.prints.specs.Walk.{value-at, grams, remaining, winnowed}
 use Rattle.prints.proofs.Walks.{is-gram, kept-whole}
 use Rattle.prints.proofs.walk.Winnow.new.Needs as need
 
 pub returns : need.returns
+unfolding remaining winnowed
 returns g c =
     let cs = g .C·Codes .codes (c .args .codes) in
     let low = c .pre .gram .0 in

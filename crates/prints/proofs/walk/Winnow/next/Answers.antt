@@ -13,3 +13,6 @@ loop-self-again-else-best-self g c = onward-again (g .Value·Order·met .total) 
 
 pub returns : need.returns
 returns g c = onward-ends (g .Value·Order·met .total) (c .args .self .now) (c .loop-self .self) (c .loop-self .inv) (c .loop-self-test .left)
+
+pub loop-self-again : need.loop-self-again
+loop-self-again g c = onward-early (g .Value·Order·met .total) (c .args .self .now) (c .loop-self .self) (c .advance .last .self) (c .loop-self .inv) (c .in-rest .ensures tt)
