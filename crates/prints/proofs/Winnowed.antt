@@ -2,10 +2,16 @@
 use mathlib.Core.Path.{_≡_, refl, sym, ap, ap₂, subst, _∙_}
 use mathlib.Core.Logic.{_⊎_, inl, inr, ⊎-elim}
 use mathlib.Core.List.{List, [], _∷_, _++_, map}
-use Prim.Native.Nat.{ℕ, _+_, _-_, _≤_, _<_}
+use mathlib.Core.Bool.{Bool}
+use Prim.Native.Nat.{ℕ, _+_, _-_, _^_, _≤_, _<_}
 use native.Mathlib.Omega.{arith}
+use lib.Dec.{leb}
 use lib.ListN.{length}
 use Rattle.std.specs.Keys.{rank}
+use Rattle.std.specs.Iters.{counting}
+use Rattle.std.specs.shelf.Lists.{kept-by}
+use Rattle.std.proofs.shelf.Counted.{length-counting}
+use Rattle.std.proofs.shelf.Tests.{cond-both}
 use Rattle.std.proofs.shelf.Lists.{append-assoc, length-map}
 use Rattle.std.specs.declared.cmp.Ordering.{Ordering}
 use Rattle.std.specs.declared.option.Option.{Option}
@@ -14,8 +20,8 @@ use Rattle.order.specs.Total.{TotalOrder}
 use Rattle.order.specs.Listed.{In, ListsExactly}
 use Rattle.prints.specs.declared.window.Placed.{Placed}
 use Rattle.prints.specs.declared.walk.Winnow.{Winnow}
-use Rattle.prints.specs.Choice.{Chosen, NoWindow, chosen, at-place, fingerprints}
-use Rattle.prints.specs.Walk.{grams, value-at, winnowed, first, rest, remaining, Walking, Handed}
+use Rattle.prints.specs.Choice.{Chosen, NoWindow, is-picked, chosen, at-place, fingerprints}
+use Rattle.prints.specs.Walk.{grams, value-at, winnowed, first, rest, walked, row-of, remaining, Walking, Handed}
 use Rattle.prints.proofs.Picks.{agrees, chosen-in, in-chosen}
 
 -- ---- steps of a walk
@@ -37,9 +43,39 @@ module _ {H C V : Type 0} {hash : List ℕ → V} {cmp : V → V → Ordering} {
   pub handed-none : (x y : Winnow H C V) → Handed hash cmp read x y None → remaining hash cmp read x ≡ []
   handed-none x y h = none-first (remaining hash cmp read x) (h .answer)
 
+  -- and has nothing left
+  pub handed-end : (x y : Winnow H C V) → Handed hash cmp read x y None → remaining hash cmp read y ≡ []
+  handed-end x y h = h .leaves ∙ ap rest (handed-none x y h)
+
+  -- one fewer is left
+  pub handed-fewer : (x y : Winnow H C V) (m : Placed V) → Handed hash cmp read x y (Some m) → length (remaining hash cmp read x) ≡ length (remaining hash cmp read y) + 1
+  handed-fewer x y m h = ap length (handed-some x y m h) ∙ omega arith
+
   -- what was handed out and what is left, after one more
   pub handed-more : (x y : Winnow H C V) (m : Placed V) (done all : List (Placed V)) → Handed hash cmp read x y (Some m) → done ++ remaining hash cmp read x ≡ all → (done ++ m ∷ []) ++ remaining hash cmp read y ≡ all
   handed-more x y m done all h e = append-assoc done (m ∷ []) (remaining hash cmp read y) ∙ ap (λ l. done ++ l) (sym (handed-some x y m h)) ∙ e
+
+kept-few : {X : Type 0} (test : X → Bool) (xs : List X) → length (kept-by test xs) ≤ length xs
+kept-few test [] = omega arith
+kept-few test (x ∷ xs) =
+    let few = kept-few test xs in
+    cond-both (test x) (x ∷ kept-by test xs) (kept-by test xs) (λ l. length l ≤ length (x ∷ xs)) (λ _. omega arith) (λ _. omega arith)
+
+module _ {H C V : Type 0} {hash : List ℕ → V} {cmp : V → V → Ordering} {read : C → List ℕ} where
+  -- there are no more places than codes
+  pub remaining-few : (x : Winnow H C V) → Walking hash cmp read x → length (remaining hash cmp read x) < 2 ^ 64
+  unfolding remaining
+  remaining-few x h =
+      let at = row-of hash cmp read x in
+      let n = grams (x .k) (walked hash cmp read x) in
+      let all = chosen cmp (x .queue .width) at n in
+      let low = h .going .low in
+      let size = h .going .size in
+      let a = length-map (kept-by (leb (x .from)) all) (at-place at) in
+      let b = kept-few (leb (x .from)) all in
+      let c = kept-few (is-picked cmp (x .queue .width) at n) (counting 0 n) in
+      let d = length-counting 0 n in
+      omega arith
 
 -- ---- all fingerprints
 

@@ -1,6 +1,6 @@
 // The walk over a file's codes that hands out its chosen places.
 ghost use mathlib.Core.Path.{_≡_};
-ghost use mathlib.Core.List.{List};
+ghost use mathlib.Core.List.{List, []};
 ghost use Prim.Native.Nat.{ℕ, _+_, _-_, _^_, _≤_, _<_};
 ghost use Rattle.prints.specs.Walk.{Going, Walking, Advanced, Handed, remaining, winnowed};
 ghost use denote.Ref.{now};
@@ -44,16 +44,16 @@ pub impl Codes for CodeList<'_> as CodeListCodes {
 // A walk over codes that hands out the chosen places in rising order, each with its value.
 #[derive(Drop)]
 pub struct Winnow<'a, H: GramHash, C: Codes> {
-    pub codes: C,
-    pub k: usize,
+    codes: C,
+    k: usize,
     // the value at `next`, while there is one
-    pub value: H::Value,
-    pub next: usize,
+    value: H::Value,
+    next: usize,
     // how many values are still to come
-    pub left: usize,
+    left: usize,
     // the least place that may still be handed out
-    pub from: usize,
-    pub queue: WindowQueue<'a, H::Value>,
+    from: usize,
+    queue: WindowQueue<'a, H::Value>,
 }
 
 // The value of the first k codes.
@@ -139,5 +139,18 @@ impl<'a, H: GramHash, C: Codes> Winnow<'a, H, C> {
             }
         }
         None
+    }
+
+    // Goes to the end, and answers how many places there were still to hand out.
+    pub fn count(&mut self) -> usize
+        requires { ⌜ Walking (H·GramHash .value) (Value·Order .cmp) (C·Codes .codes) (now self) ⌝ }
+        ensures all { λ r. ⌜ r ≡ length (remaining (H·GramHash .value) (Value·Order .cmp) (C·Codes .codes) (now (self .entry))) ⌝ }
+        ensures none { λ r. ⌜ remaining (H·GramHash .value) (Value·Order .cmp) (C·Codes .codes) (now (self .exit)) ≡ [] ⌝ }
+    {
+        let mut n = 0;
+        while let Some(_) = self.next() {
+            n += 1;
+        }
+        n
     }
 }

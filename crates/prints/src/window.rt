@@ -20,11 +20,11 @@ pub struct Placed<V> {
 // next, and each value is compared three times.
 #[derive(Drop)]
 pub struct WindowQueue<'a, V> {
-    pub slots: &'a mut [Placed<V>],
-    pub width: usize,
-    pub taken: usize,
-    pub wrapped: bool,
-    pub back: Placed<V>,
+    slots: &'a mut [Placed<V>],
+    width: usize,
+    taken: usize,
+    wrapped: bool,
+    back: Placed<V>,
 }
 
 // Of two values the smaller, and the later of two equal ones.

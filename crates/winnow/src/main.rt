@@ -11,7 +11,29 @@ use prints::polynomial::PolynomialHash;
 use prints::window::Placed;
 use std::error::AnyError;
 
-const TEXT: [u16; 21] = [97, 100, 111, 114, 117, 110, 114, 117, 110, 114, 117, 110, 97, 100, 111, 114, 117, 110, 114, 117, 110];
+const TEXT: [u16; 21] = [
+    97,
+    100,
+    111,
+    114,
+    117,
+    110,
+    114,
+    117,
+    110,
+    114,
+    117,
+    110,
+    97,
+    100,
+    111,
+    114,
+    117,
+    110,
+    114,
+    117,
+    110,
+];
 
 // What stopped the listing.
 fn reason(unfit: Unfit) -> &'static str {
@@ -25,7 +47,11 @@ fn reason(unfit: Unfit) -> &'static str {
 }
 
 fn values(rt: &LibcRuntime) -> Result<(), AnyError> {
-    println!(rt, "polynomial of 97 98 99 100: {}", Polynomial::of(&[97, 98, 99, 100]))?;
+    println!(
+        rt,
+        "polynomial of 97 98 99 100: {}",
+        Polynomial::of(&[97, 98, 99, 100])
+    )?;
     println!(rt, "polynomial of 2 1: {}", Polynomial::of(&[2, 1]))?;
     println!(rt, "polynomial of 1 1001: {}", Polynomial::of(&[1, 1001]))?;
     println!(rt, "cyclic shift of 1 1: {}", CyclicShift::of(&[1, 1]))?;
@@ -35,7 +61,10 @@ fn values(rt: &LibcRuntime) -> Result<(), AnyError> {
 }
 
 fn listing(rt: &LibcRuntime) -> Result<(), AnyError> {
-    let mut work = [Placed { place: 0, value: 0u32 }; 4];
+    let mut work = [Placed {
+        place: 0,
+        value: 0u32,
+    }; 4];
     println!(rt, "fingerprints of adorunrunrunadorunrun, k = 5, w = 4:")?;
     match fingerprints::<Polynomial>(rt.alloc(), &TEXT, 5, 4, &mut work) {
         Ok(list) => {
