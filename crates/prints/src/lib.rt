@@ -11,6 +11,7 @@ pub mod hash;
 pub mod list;
 pub mod pair;
 pub mod polynomial;
+mod table;
 pub mod walk;
 pub mod window;
 

@@ -1,6 +1,4 @@
 // Two hashes as one.
-ghost use mathlib.Core.Path.{_≡_};
-ghost use Prim.Native.Nat.{ℕ};
 use crate::hash::GramHash;
 use order::PairOrder;
 use std::marker::PhantomData;

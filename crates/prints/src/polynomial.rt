@@ -1,8 +1,6 @@
 // The polynomial hash (Karp and Rabin, 1987).
 ghost use mathlib.Core.Path.{_≡_};
-ghost use Prim.Native.Nat.{_-_, _^_, _%_};
-ghost use lib.ListN.{length};
-ghost use Prim.Native.Nat.{ℕ, _<_, _≤_};
+ghost use Prim.Native.Nat.{_-_, _^_, _%_, _≤_};
 ghost use Rattle.prints.specs.Hashes.{prime, polynomial};
 use crate::hash::GramHash;
 use order::U32Order;

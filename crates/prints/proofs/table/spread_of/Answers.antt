@@ -7,7 +7,7 @@ use lib.ListN.{getD}
 use Rattle.std.specs.Iters.{counting}
 use Rattle.std.proofs.shelf.Counted.{getD-map-counting}
 use Rattle.prints.specs.Hashes.{spread}
-use Rattle.prints.proofs.cyclic.spread_of.Needs as need
+use Rattle.prints.proofs.table.spread_of.Needs as need
 
 -- the rule of the whole table, by one computation
 pub returns : need.returns
