@@ -29,6 +29,26 @@ isLt-less Greater e = absurd (false≢true e)
 less-isLt : (o : Ordering) → isLt o ≡ false → o ≡ Less → ⊥
 less-isLt o f l = false≢true (sym f ∙ ap isLt l)
 
+-- the same values, perhaps at other places: what one window chooses, the other chooses there
+module _ {V : Type 0} (at there : ℕ → V) (s z w : ℕ) (alike : (d : ℕ) → d < w → at (s + d) ≡ there (z + d)) where
+  moved : (p q : ℕ) → s ≤ p → p < s + w → p + z ≡ q + s → at p ≡ there q
+  moved p q lo hi e =
+      let back : p ≡ s + (p - s) = omega arith in
+      let on : z + (p - s) ≡ q = omega arith in
+      ap at back ∙ alike (p - s) (omega arith) ∙ ap there on
+
+  pub rightmost-moved : {cmp : V → V → Ordering} (p q : ℕ) → p + z ≡ q + s → Rightmost cmp at s w p → Rightmost cmp there z w q
+  rightmost-moved {cmp} p q e r =
+      let lo = r .from in
+      let hi = r .below in
+      let same-p = moved p q lo hi e in
+      record {
+        from = omega arith;
+        below = omega arith;
+        least = λ c a b less. r .least (s + (c - z)) (omega arith) (omega arith) (ap₂ cmp (moved (s + (c - z)) c (omega arith) (omega arith) (omega arith)) same-p ∙ less);
+        last = λ c a b f. r .last (s + (c - z)) (omega arith) (omega arith) (moved (s + (c - z)) c (omega arith) (omega arith) (omega arith) ∙ f ∙ sym same-p);
+      }
+
 module _ {V : Type 0} {cmp : V → V → Ordering} (o : TotalOrder cmp) (at : ℕ → V) where
   -- a window of one
   pub rightmost-single : (s : ℕ) → Rightmost cmp at s 1 s

@@ -119,6 +119,11 @@ module _ {V : Type 0} (hash : List ℕ → V) {cmp : V → V → Ordering} (o : 
   unfolding winnowed
   in-winnowed p c = in-map (at-place (value-at hash k cs)) p (chosen cmp w (value-at hash k cs) (grams k cs)) (in-chosen o (value-at hash k cs) w (grams k cs) p pos c)
 
+  -- fewer codes than a window spans
+  pub winnowed-short : length cs + 1 < k + w → winnowed hash cmp k w cs ≡ []
+  unfolding winnowed
+  winnowed-short lt = ap (map (at-place (value-at hash k cs))) (no-window V cmp o w (value-at hash k cs) (grams k cs) (omega arith))
+
   -- its gram lies within the codes
   pub winnowed-within : 1 ≤ k → (m : Placed V) → In m (winnowed hash cmp k w cs) → m .place + k ≤ length cs
   winnowed-within low m i =

@@ -57,6 +57,8 @@ fn values(rt: &LibcRuntime) -> Result<(), AnyError> {
     println!(rt, "cyclic shift of 1 1: {}", CyclicShift::of(&[1, 1]))?;
     let both = Pair::<Polynomial, CyclicShift>::of(&[2, 1]);
     println!(rt, "pair of 2 1: {} {}", both.0, both.1)?;
+    let nested = Pair::<Pair<Polynomial, CyclicShift>, Polynomial>::of(&[1, 1001]);
+    println!(rt, "pair of a pair, of 1 1001: {} {} {}", nested.0.0, nested.0.1, nested.1)?;
     Ok(())
 }
 
