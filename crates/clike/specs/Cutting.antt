@@ -1,0 +1,2 @@
+-- What `cut` answers.
+use mathlib.Core.Path.{_≡_}

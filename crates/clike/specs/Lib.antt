@@ -1,0 +1,4 @@
+pub mod Keywords
+pub mod Lexemes
+pub mod Scans
+pub mod Cutting

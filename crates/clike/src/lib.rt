@@ -1,0 +1,3 @@
+// C-like files: cutting them into lexemes, and the source of their tokens.
+pub mod keyword;
+pub mod scan;
