@@ -3,14 +3,14 @@ use mathlib.Core.Path.{_≡_, refl, sym, ap, _∙_}
 use mathlib.Core.Bool.{Bool, true, false, cond, not, _&&_, _||_}
 use mathlib.Core.Logic.{_⊎_, ⊎-elim}
 use mathlib.Core.List.{List, [], _∷_}
-use Prim.Native.Nat.{ℕ, _+_, _<_, _≤_}
+use Prim.Native.Nat.{ℕ, zero, suc, _+_, _<_, _≤_}
 use native.Mathlib.Omega.{arith}
 use native.Mathlib.Numerals.{one-add}
 use lib.Dec.{eqb}
-use lib.ListN.{length, drop, getD}
+use lib.ListN.{length, take, drop, getD}
 use Rattle.std.proofs.shelf.Lists.{at-drop-more, at-drop-all}
 use Rattle.std.specs.shelf.Lists.{leading}
-use Rattle.std.proofs.shelf.Tests.{cond-true, cond-false, eq-eqb, ne-eqb, eqb-true, eqb-false, not-true, not-false, and-parts, and-cases, cases-bool, cases-eq, or-left}
+use Rattle.std.proofs.shelf.Tests.{cond-both, cond-true, cond-false, eq-eqb, ne-eqb, eqb-true, eqb-false, not-true, not-false, and-parts, and-cases, cases-bool, cases-eq, cases-lt, both-ways, or-left}
 use Rattle.tokens.specs.Texts.{nonzero}
 use Rattle.clike.specs.Lexemes.{read, begins-with, closing, closes, before-close, quoted-on}
 
@@ -52,6 +52,12 @@ next-none c xs i h = read-ends (begins-with c) xs i h
 
 -- ---- comments
 
+-- where `*/` stands there are two bytes
+pub close-room : (xs : List ℕ) (i : ℕ) → i < length xs → closing (getD xs i 0) (read (drop (i + 1) xs)) ≡ true → i + 2 ≤ length xs
+close-room xs i h e =
+    let slash = and-parts (eqb (getD xs i 0) 42) (begins-with 47 (read (drop (i + 1) xs))) e .1 in
+    ⊎-elim (λ more. omega arith) (λ none. absurd (both-ways (begins-with 47 (read (drop (i + 1) xs))) (next-none 47 xs (i + 1) none) slash)) (cases-lt (i + 1) (length xs))
+
 module _ (xs : List ℕ) (i : ℕ) (h : i < length xs) (ne : getD xs i 0 ≡ 0 → ⊥) where
   pub closes-here : closing (getD xs i 0) (read (drop (i + 1) xs)) ≡ true → (closes (read (drop i xs)) ≡ true) × (before-close (read (drop i xs)) ≡ 0)
   closes-here e =
@@ -86,3 +92,18 @@ module _ (q : ℕ) (xs : List ℕ) (i : ℕ) (h : i < length xs) (ne : getD xs i
 pub quote-none : (q : ℕ) (taken : Bool) → quoted-on q taken [] ≡ 0
 quote-none q true = refl
 quote-none q false = refl
+
+-- ---- what is read is the front of the bytes
+
+pub read-take : (n : ℕ) (xs : List ℕ) → n ≤ length (read xs) → take n (read xs) ≡ take n xs
+read-take zero xs h = refl
+read-take (suc n) [] h = refl
+read-take (suc n) (b ∷ bs) h =
+    let Goal : Bool → Type 0 = λ t. suc n ≤ length (cond t [] (b ∷ read bs)) → take (suc n) (cond t [] (b ∷ read bs)) ≡ b ∷ take n bs in
+    elim (eqb b 0) as Goal [ true ↦ (λ low. absurd (omega arith)) | false ↦ (λ low. ap (λ ys. b ∷ ys) (read-take n bs (omega arith))) ] h
+
+pub read-length : (xs : List ℕ) → length (read xs) ≤ length xs
+read-length [] = omega arith
+read-length (b ∷ bs) =
+    let more = read-length bs in
+    cond-both (eqb b 0) [] (b ∷ read bs) (λ ys. length ys ≤ length (b ∷ bs)) (λ _. omega arith) (λ _. omega arith)

@@ -17,3 +17,7 @@ in-run Line b = in-line b
 
 abbrev pub comment-end : List ℕ → CommentEnd
 comment-end body = cond (closes body) (Closed (before-close body + 2)) (Open (length body))
+
+abbrev pub end-size : CommentEnd → ℕ
+end-size (Closed n) = n
+end-size (Open n) = n

@@ -1,3 +1,5 @@
 // C-like files: cutting them into lexemes, and the source of their tokens.
+pub mod cutting;
 pub mod keyword;
+pub mod lexeme;
 pub mod scan;

@@ -6,7 +6,7 @@ ghost use lib.ListN.{length, drop, getD};
 ghost use Rattle.std.specs.shelf.Lists.{leading};
 ghost use Rattle.tokens.specs.Texts.{nonzero};
 ghost use Rattle.clike.specs.Lexemes.{read, in-word, quoted-on, closing};
-ghost use Rattle.clike.specs.Scans.{in-run, comment-end};
+ghost use Rattle.clike.specs.Scans.{in-run, comment-end, end-size};
 use tokens::bytes::is_digit;
 use tokens::bytes::is_letter;
 
@@ -93,7 +93,8 @@ fn closes_at(body: &[u8], i: usize) -> bool
 }
 
 pub fn comment_end(body: &[u8]) -> CommentEnd
-    ensures { λ r. ⌜ r ≡ comment-end (read (now (body .entry))) ⌝ }
+    ensures ends { λ r. ⌜ r ≡ comment-end (read (now (body .entry))) ⌝ }
+    ensures bound { λ r. ⌜ end-size r ≤ length (now (body .entry)) ⌝ }
 {
     for (i, b) in body.iter().enumerate() {
         if *b == 0 {
