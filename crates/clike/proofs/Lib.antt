@@ -1,3 +1,6 @@
 pub mod Words
-pub mod Reading
+pub mod Fronts
 pub mod Shapes
+pub mod Pieces
+pub mod Chains
+pub mod Steps

@@ -14,13 +14,17 @@ use Rattle.std.proofs.shelf.Tests.{cond-both, cond-true, cond-false, or-left, o
 use Rattle.std.proofs.shelf.Ways.{tells}
 use Rattle.tokens.specs.Bytes.{is-blank, is-letter, is-digit}
 use Rattle.clike.specs.declared.lexeme.Lexeme.{Lexeme}
-use Rattle.clike.specs.Keywords.{keyword-number}
+use Rattle.std.specs.Options as Options
+use Rattle.std.specs.shelf.Text.{sameBytes}
+use Rattle.std.specs.declared.option.Option.{Option}
+use Rattle.std.specs.declared.option.Option.the-variants.{Some, None}
+use Rattle.clike.specs.Keywords.{keywords, place-among, keyword-number}
 use Rattle.clike.specs.Lexemes.{Kind, blank, comment, open-comment, quoted, name, keyword, number, mark, Shape, shape, Piece, piece-of, read, begins-with, closing, closes, before-close, block-comment, in-line, is-quote, quoted-on, begins-word, in-word, in-number, word-kind, word, first-shape, first-lexeme}
 use Rattle.clike.specs.Cutting.{lexeme-bytes, lexeme-of, seen, Cuts}
 use Rattle.clike.specs.declared.lexeme.Lexeme.the-variants.{Nothing}
 use Rattle.clike.specs.declared.scan.CommentEnd.the-variants.{Closed, Open}
 use Rattle.clike.specs.Scans.{comment-end}
-use Rattle.clike.proofs.Reading.{read-more, read-take, read-length, next-is, next-none}
+use Rattle.clike.proofs.Fronts.{read-more, read-take, read-length, next-is, next-none}
 
 -- ---- the rules
 
@@ -95,33 +99,56 @@ quoted-on-le q false (b ∷ bs) =
     cond-both (eqb b q) 1 (cond (eqb b 10) 0 (1 + quoted-on q (eqb b 92) bs)) P (λ _. omega arith)
     (λ _. cond-both (eqb b 10) 0 (1 + quoted-on q (eqb b 92) bs) P (λ _. omega arith) (λ _. omega arith))
 
--- a lexeme has a byte at least, and no more than there are
-abbrev pub Fitting : ℕ → Shape → Type 0
-Fitting n s = (1 ≤ s .size) × (s .size ≤ n)
+abbrev pub Numbered : Kind → Type 0
+Numbered (keyword n) = n < 32
+Numbered blank = Unit {0}
+Numbered comment = Unit {0}
+Numbered open-comment = Unit {0}
+Numbered quoted = Unit {0}
+Numbered name = Unit {0}
+Numbered number = Unit {0}
+Numbered mark = Unit {0}
 
-run-fits : (p : ℕ → Bool) (b : ℕ) (after : List ℕ) → p b ≡ true → (1 ≤ leading p (b ∷ after)) × (leading p (b ∷ after) ≤ length (b ∷ after))
-run-fits p b after e = let one : leading p (b ∷ after) ≡ 1 + leading p after = cond-true (p b) _ _ e in (omega arith, leading-le-length p (b ∷ after))
+-- a lexeme has a byte at least, and no more than there are; a keyword's number is below 32
+abbrev pub Fitting : ℕ → Shape → Type 0
+Fitting n s = (1 ≤ s .size) × (s .size ≤ n) × Numbered (s .kind)
+
+place-below : (run : List ℕ) (i : ℕ) (words : List (List ℕ)) → Options.Cases (place-among run i words) (Unit {0}) (λ n. n < i + length words)
+place-below run i [] = tt
+place-below run i (word′ ∷ words) =
+    let P : Option ℕ → Type 0 = λ o. Options.Cases o (Unit {0}) (λ n. n < i + length (word′ ∷ words)) in
+    let wider : (o : Option ℕ) → Options.Cases o (Unit {0}) (λ n. n < i + 1 + length words) → P o = λ o. elim o as (λ o. Options.Cases o (Unit {0}) (λ n. n < i + 1 + length words) → P o) [ None ↦ (λ _. tt) | Some n ↦ (λ h. omega arith) ] in
+    cond-both (sameBytes run word′) (Some i) (place-among run (i + 1) words) P (λ _. omega arith) (λ _. wider (place-among run (i + 1) words) (place-below run (i + 1) words))
+
+word-numbered : (run : List ℕ) → Numbered (word-kind (keyword-number run))
+unfolding keyword-number keywords
+word-numbered run =
+    let Goal : Option ℕ → Type 0 = λ o. Options.Cases o (Unit {0}) (λ n. n < 32) → Numbered (word-kind o) in
+    let each : (o : Option ℕ) → Goal o = λ o. elim o as Goal [ None ↦ (λ _. tt) | Some n ↦ (λ h. h) ] in
+    each (place-among run 0 keywords) (place-below run 0 keywords)
+
+run-fits : (p : ℕ → Bool) (k : Kind) (b : ℕ) (after : List ℕ) → Numbered k → p b ≡ true → Fitting (length (b ∷ after)) (shape k (leading p (b ∷ after)))
+run-fits p k b after few e = let one : leading p (b ∷ after) ≡ 1 + leading p after = cond-true (p b) _ _ e in (omega arith, leading-le-length p (b ∷ after), few)
 
 block-fits : (after : List ℕ) → begins-with 42 after ≡ true → Fitting (1 + length after) (block-comment (drop 1 after))
 unfolding block-comment
 block-fits [] e = absurd (both-ways false refl e)
 block-fits (c ∷ body) e =
     cond-both (closes body) (shape comment (4 + before-close body)) (shape open-comment (2 + length body)) (Fitting (1 + length (c ∷ body)))
-    (λ h. let few = before-close-le body h in (omega arith, omega arith)) (λ _. (omega arith, omega arith))
+    (λ h. let few = before-close-le body h in (omega arith, omega arith, tt)) (λ _. (omega arith, omega arith, tt))
 
 pub shape-fits : (b : ℕ) (after : List ℕ) → Fitting (length (b ∷ after)) (first-shape b after)
 unfolding first-shape
 shape-fits b after =
     let P : Shape → Type 0 = Fitting (length (b ∷ after)) in
-    let one : (k : Kind) → P (shape k 1) = λ k. (omega arith, omega arith) in
-    cond-both (is-blank b) _ _ P (λ _. one blank)
+    cond-both (is-blank b) _ _ P (λ _. (omega arith, omega arith, tt))
     (λ _. cond-both (eqb b 47 && begins-with 42 after) _ _ P
-    (λ e. let fits = block-fits after (and-parts (eqb b 47) (begins-with 42 after) e .1) in (fits .0, omega (arith, fits .1)))
+    (λ e. let fits = block-fits after (and-parts (eqb b 47) (begins-with 42 after) e .1) in (fits .0, omega (arith, fits .1), fits .2))
     (λ _. cond-both (eqb b 47 && begins-with 47 after) _ _ P
-    (λ e. let slash = eqb-true b 47 (and-parts (eqb b 47) (begins-with 47 after) e .0) in run-fits in-line b after (ap in-line slash))
-    (λ _. cond-both (is-quote b) _ _ P (λ _. let few = quoted-on-le b false after in (omega arith, omega arith))
-    (λ _. cond-both (begins-word b) _ _ P (λ e. run-fits in-word b after (or-left (begins-word b) (is-digit b) e))
-    (λ _. cond-both (is-digit b) _ _ P (λ e. run-fits in-number b after (or-left (in-word b) (eqb b 46) (or-right (begins-word b) (is-digit b) e))) (λ _. one mark))))))
+    (λ e. let slash = eqb-true b 47 (and-parts (eqb b 47) (begins-with 47 after) e .0) in run-fits in-line comment b after tt (ap in-line slash))
+    (λ _. cond-both (is-quote b) _ _ P (λ _. let few = quoted-on-le b false after in (omega arith, omega arith, tt))
+    (λ _. cond-both (begins-word b) _ _ P (λ e. run-fits in-word (word (b ∷ after) .kind) b after (word-numbered (take (leading in-word (b ∷ after)) (b ∷ after))) (or-left (begins-word b) (is-digit b) e))
+    (λ _. cond-both (is-digit b) _ _ P (λ e. run-fits in-number number b after tt (or-left (in-word b) (eqb b 46) (or-right (begins-word b) (is-digit b) e))) (λ _. (omega arith, omega arith, tt)))))))
 
 -- ---- what `cut` answers where there is something to read
 

@@ -2,4 +2,6 @@
 pub mod cutting;
 pub mod keyword;
 pub mod lexeme;
+pub mod reading;
 pub mod scan;
+pub mod state;

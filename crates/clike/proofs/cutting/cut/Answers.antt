@@ -11,7 +11,7 @@ use Rattle.std.proofs.shelf.Ways.{tells}
 use Rattle.tokens.specs.Bytes.{is-blank, is-letter, is-digit}
 use Rattle.clike.specs.Lexemes.{read, blank, quoted, number, mark, is-quote, begins-word, quoted-on, shape, first-shape}
 use Rattle.clike.specs.Cutting.{lexeme-of}
-use Rattle.clike.proofs.Reading.{read-ends}
+use Rattle.clike.proofs.Fronts.{read-ends}
 use Rattle.clike.proofs.Shapes.{cuts, nothing-cut, blank-rule, quote-rule, number-read, mark-rule}
 use Rattle.clike.proofs.cutting.cut.Needs as need
 

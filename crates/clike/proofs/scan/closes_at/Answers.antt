@@ -6,7 +6,7 @@ use lib.Dec.{eqb}
 use lib.ListN.{drop, getD}
 use Rattle.std.proofs.shelf.Tests.{and-right, eq-eqb}
 use Rattle.clike.specs.Lexemes.{read, begins-with}
-use Rattle.clike.proofs.Reading.{next-is, next-none}
+use Rattle.clike.proofs.Fronts.{next-is, next-none}
 use Rattle.clike.proofs.scan.closes_at.Needs as need
 
 pub returns-then-i-body : need.returns-then-i-body

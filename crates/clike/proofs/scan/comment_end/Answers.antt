@@ -6,7 +6,7 @@ use lib.ListN.{length}
 use Rattle.std.proofs.shelf.Tests.{cond-true, cond-false}
 use Rattle.clike.specs.declared.scan.CommentEnd.the-variants.{Closed, Open}
 use Rattle.clike.specs.Lexemes.{read, closes, before-close}
-use Rattle.clike.proofs.Reading.{read-stops, read-ends, closes-here, closes-later, length-later, close-room}
+use Rattle.clike.proofs.Fronts.{read-stops, read-ends, closes-here, closes-later, length-later, close-room}
 use Rattle.clike.proofs.scan.comment_end.Needs as need
 
 pub returns-then-b-eq0 : need.returns-then-b-eq0

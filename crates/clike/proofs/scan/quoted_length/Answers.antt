@@ -3,7 +3,7 @@ use native.Mathlib.Omega.{arith}
 use Prim.Native.Nat.{_+_}
 use lib.ListN.{drop}
 use Rattle.clike.specs.Lexemes.{read, quoted-on}
-use Rattle.clike.proofs.Reading.{read-stops, read-ends, quote-taken, quote-closed, quote-cut, quote-on, quote-none}
+use Rattle.clike.proofs.Fronts.{read-stops, read-ends, quote-taken, quote-closed, quote-cut, quote-on, quote-none}
 use Rattle.clike.proofs.scan.quoted_length.Needs as need
 use Rattle.clike.proofs.scan.quoted_length.Needs.{then-taken, else-taken·else-b-quote·else-b-eq10}
 

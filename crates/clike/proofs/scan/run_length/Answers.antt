@@ -2,7 +2,7 @@ use mathlib.Core.Path.{_≡_, sym, _∙_}
 use native.Mathlib.Omega.{arith}
 use Rattle.std.specs.shelf.Lists.{leading}
 use Rattle.clike.specs.Scans.{in-run}
-use Rattle.clike.proofs.Reading.{run-more, run-stops, read-ends}
+use Rattle.clike.proofs.Fronts.{run-more, run-stops, read-ends}
 use Rattle.clike.proofs.scan.run_length.Needs as need
 
 pub returns-then-not-goes-on : need.returns-then-not-goes-on
