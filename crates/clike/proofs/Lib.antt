@@ -4,3 +4,4 @@ pub mod Shapes
 pub mod Pieces
 pub mod Chains
 pub mod Steps
+pub mod Covered

@@ -21,7 +21,8 @@ use Rattle.clike.specs.declared.state.Sort.{Sort}
 use Rattle.clike.specs.Lexemes.{Kind, open-comment, keyword, Shape, Piece, piece-of, read, first-shape, first-lexeme, lexemes}
 use Rattle.clike.specs.Cutting.{lexeme-of}
 use Rattle.clike.specs.Clikes.{first-class, further-class, byte-token, byte-tokens, spelled, keyword-token, kind-tokens, tokens-of, or-else, fault-of, open-fault}
-use Rattle.clike.specs.States.{sort-first, sort-further, tokens-at, ending-at}
+use Rattle.clike.specs.declared.state.Clike.{Clike}
+use Rattle.clike.specs.States.{sort-first, sort-further, tokens-at, ending-at, clike-left, ending-left}
 use Rattle.clike.proofs.Shapes.{Fitting, shape-fits}
 use Rattle.clike.proofs.Pieces.{lexemes-none, lexemes-more}
 use Rattle.clike.proofs.Chains.{plain-head, plain-drop}
@@ -140,3 +141,46 @@ module _ (text : List ℕ) (at : ℕ) (k : Kind) (run : List ℕ) (h : at < leng
   keyword-ending n known e =
       ap (λ m. or-else known (open-fault m (lexemes (drop m text)))) (add-zero (at + length run))
       ∙ sym (begun-ending known ∙ ap (λ x. or-else known (fault-of at x (open-fault (at + length run) (lexemes (drop (at + length run) text))))) e)
+
+-- ---- whole states
+
+same-tokens : (a b : Clike) → a .text .bytes ≡ b .text .bytes → a .at ≡ b .at → a .left ≡ b .left → a .sort ≡ b .sort → clike-left a ≡ clike-left b
+same-tokens a b text at left sort = cc
+
+same-ending : (a : Clike) (text : List ℕ) (at left : ℕ) (known : Option Fault) → a .text .bytes .now ≡ text → a .at ≡ at → a .left ≡ left → a .ending ≡ known → ending-left a ≡ ending-at text at left known
+same-ending a text at left known e f g h = cc
+
+same-left : (a : Clike) (text : List ℕ) (at left : ℕ) (s : Sort) → a .text .bytes .now ≡ text → a .at ≡ at → a .left ≡ left → a .sort ≡ s → clike-left a ≡ tokens-at text at left s
+same-left a text at left s e f g h = cc
+
+-- a lexeme that gives one token a byte is begun
+module _ (a b : Clike) (r : Token) (k : Kind) (s : Sort) (run : List ℕ) (h : a .at < length (a .text .bytes .now)) (none : a .left ≡ 0)
+    (cut : lexeme-of k run ≡ first-lexeme (read (drop (a .at) (a .text .bytes .now))))
+    (text : b .text .bytes ≡ a .text .bytes) (at : b .at ≡ a .at + 1) (left : b .left ≡ length run - 1) where
+  pub spell-token : kind-tokens (a .at) k run ≡ spelled (a .at) (sort-first s) (sort-further s) run → r ≡ byte-token (a .at) (sort-first s) (getD (a .text .bytes .now) (a .at) 0) → b .sort ≡ s → clike-left a ≡ r ∷ clike-left b
+  spell-token e token sort =
+      let xs = a .text .bytes .now in
+      same-left a xs (a .at) 0 (a .sort) refl refl none refl
+      ∙ spelled-tokens xs (a .at) k run h (begun xs (a .at) k run (a .text .plain) h cut) (a .sort) s e
+      ∙ ap (λ ts. byte-token (a .at) (sort-first s) (getD xs (a .at) 0) ∷ ts) (sym (same-left b xs (a .at + 1) (length run - 1) s (ap (λ x. x .now) text) at left sort))
+      ∙ ap (λ t. t ∷ clike-left b) (sym token)
+
+  pub spell-ends : ((e : Option Fault) → fault-of (a .at) k e ≡ e) → b .ending ≡ a .ending → ending-left b ≡ ending-left a
+  spell-ends closed known =
+      let xs = a .text .bytes .now in
+      same-ending b xs (a .at + 1) (length run - 1) (a .ending) (ap (λ x. x .now) text) at left known
+      ∙ spelled-ending xs (a .at) k run h (begun xs (a .at) k run (a .text .plain) h cut) (a .ending) closed
+      ∙ sym (same-ending a xs (a .at) 0 (a .ending) refl refl none refl)
+
+  pub open-ends : k ≡ open-comment → b .ending ≡ or-else (a .ending) (Some (file-fault OpenComment (a .at))) → ending-left b ≡ ending-left a
+  open-ends e known =
+      let xs = a .text .bytes .now in
+      same-ending b xs (a .at + 1) (length run - 1) (or-else (a .ending) (Some (file-fault OpenComment (a .at)))) (ap (λ x. x .now) text) at left known
+      ∙ opened-ending xs (a .at) k run h (begun xs (a .at) k run (a .text .plain) h cut) (a .ending) e
+      ∙ sym (same-ending a xs (a .at) 0 (a .ending) refl refl none refl)
+
+-- there is a lexeme where there are bytes
+pub some-lexeme : (text : List ℕ) (at : ℕ) → plain text ≡ true → at < length text → None ≡ first-lexeme (read (drop at text)) → ⊥
+some-lexeme text at p h e =
+    let whole : first-lexeme (read (drop at text)) ≡ Some (piece-of (first-shape (getD text at 0) (drop (at + 1) text)) (getD text at 0 ∷ drop (at + 1) text)) = ap first-lexeme (read-plain (drop at text) (plain-drop at text p) ∙ drop-more text at 0 h) in
+    let z : _≡_ {A = ℕ} 0 1 = cc in omega arith

@@ -7,6 +7,7 @@ ghost use Rattle.std.specs.declared.option.Option.the-variants.{Some};
 ghost use Rattle.tokens.specs.declared.token.Cause.the-variants.{OpenComment};
 ghost use Rattle.tokens.specs.Texts.{file-fault, text-read};
 ghost use Rattle.clike.specs.Clikes.{byte-token, or-else, clike-tokens, clike-ending};
+ghost use Rattle.clike.specs.Covering.{End-to-end, Covers-once};
 ghost use Rattle.clike.specs.States.{sort-first, sort-further, clike-left, ending-left};
 use crate::cutting::cut;
 use crate::lexeme::Lexeme;
@@ -56,6 +57,8 @@ impl<'a> Clike<'a> {
     pub fn new(file: &'a [u8]) -> Clike<'a>
         ensures tokens { λ r. ⌜ clike-left r ≡ clike-tokens (text-read (now (file .entry))) ⌝ }
         ensures ending { λ r. ⌜ ending-left r ≡ clike-ending (now (file .entry)) ⌝ }
+        ensures chained { λ r. ⌜ End-to-end 0 (clike-left r) (length (text-read (now (file .entry)))) ⌝ }
+        ensures once { λ r. ⌜ Covers-once (clike-left r) (length (text-read (now (file .entry)))) ⌝ }
     {
         let text = Text::of(file);
         Clike {
