@@ -36,7 +36,7 @@ passed p at to (t ∷ ts) e h =
     let here : (p < t .from) ⊎ (t .to ≤ p) = ⊎-elim (λ low. inl (omega arith)) (λ high. inr (omega arith)) h in
     let later : (p < t .to) ⊎ (to ≤ p) = ⊎-elim (λ low. inl (omega arith)) (λ high. inr high) h in
     let zero-more = passed p (t .to) to ts (e .2) later in
-    let none : cond (covers p t) 1 0 ≡ 0 = cond-false (covers p t) 1 0 (covers-not p t here) in
+    let none : _≡_ {A = ℕ} (cond (covers p t) 1 0) 0 = cond-false (covers p t) 1 0 (covers-not p t here) in
     more p t ts ∙ omega (arith, none, zero-more)
 
 met : (p at to : ℕ) (ts : List Token) → End-to-end at ts to → at ≤ p → p < to → countBy (covers p) ts ≡ 1
@@ -45,9 +45,9 @@ met p at to (t ∷ ts) e low high =
     let from = e .0 in
     let some = e .1 in
     ⊎-elim
-    (λ before. let one : cond (covers p t) 1 0 ≡ 1 = cond-true (covers p t) 1 0 (and-from (leb (t .from) p) (ltb p (t .to)) (le-leb (t .from) p (omega arith)) (lt-ltb p (t .to) before)) in
+    (λ before. let one : _≡_ {A = ℕ} (cond (covers p t) 1 0) 1 = cond-true (covers p t) 1 0 (and-from (leb (t .from) p) (ltb p (t .to)) (le-leb (t .from) p (omega arith)) (lt-ltb p (t .to) before)) in
     let rest = passed p (t .to) to ts (e .2) (inl before) in more p t ts ∙ omega (arith, one, rest))
-    (λ after. let none : cond (covers p t) 1 0 ≡ 0 = cond-false (covers p t) 1 0 (covers-not p t (inr after)) in
+    (λ after. let none : _≡_ {A = ℕ} (cond (covers p t) 1 0) 0 = cond-false (covers p t) 1 0 (covers-not p t (inr after)) in
     let rest = met p (t .to) to ts (e .2) after high in more p t ts ∙ omega (arith, none, rest))
     (cases-lt p (t .to))
 

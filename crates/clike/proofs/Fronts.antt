@@ -60,14 +60,16 @@ close-room xs i h e =
 
 module _ (xs : List ℕ) (i : ℕ) (h : i < length xs) (ne : getD xs i 0 ≡ 0 → ⊥) where
   pub closes-here : closing (getD xs i 0) (read (drop (i + 1) xs)) ≡ true → (closes (read (drop i xs)) ≡ true) × (before-close (read (drop i xs)) ≡ 0)
-  closes-here e =
-      (read-more closes xs i h ne ∙ or-left _ (closes (read (drop (i + 1) xs))) e,
-       read-more before-close xs i h ne ∙ cond-true (closing (getD xs i 0) (read (drop (i + 1) xs))) _ _ e)
+  closes-here e = (
+    read-more closes xs i h ne ∙ or-left _ (closes (read (drop (i + 1) xs))) e,
+    read-more before-close xs i h ne ∙ cond-true (closing (getD xs i 0) (read (drop (i + 1) xs))) _ _ e,
+  )
 
   pub closes-later : closing (getD xs i 0) (read (drop (i + 1) xs)) ≡ false → (closes (read (drop i xs)) ≡ closes (read (drop (i + 1) xs))) × (before-close (read (drop i xs)) ≡ 1 + before-close (read (drop (i + 1) xs)))
-  closes-later e =
-      (read-more closes xs i h ne ∙ ap (λ t. t || closes (read (drop (i + 1) xs))) e,
-       read-more before-close xs i h ne ∙ cond-false (closing (getD xs i 0) (read (drop (i + 1) xs))) _ _ e)
+  closes-later e = (
+    read-more closes xs i h ne ∙ ap (λ t. t || closes (read (drop (i + 1) xs))) e,
+    read-more before-close xs i h ne ∙ cond-false (closing (getD xs i 0) (read (drop (i + 1) xs))) _ _ e,
+  )
 
   pub length-later : length (read (drop i xs)) ≡ 1 + length (read (drop (i + 1) xs))
   length-later = read-more length xs i h ne ∙ sym (one-add (length (read (drop (i + 1) xs))))

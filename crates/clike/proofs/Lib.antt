@@ -5,3 +5,4 @@ pub mod Pieces
 pub mod Chains
 pub mod Steps
 pub mod Covered
+pub mod Lawful

@@ -16,7 +16,6 @@ use Rattle.std.proofs.shelf.Ways.{same-from-decides}
 use Rattle.std.proofs.shelf.Tests.{cond-true, cond-false}
 use Rattle.clike.specs.Keywords.{texts, place-among}
 
-
 -- what `==` answers
 pub compared : (xs ys : List ℕ) (r : Bool) → Matches (λ (a b : ℕ) (t : Bool). Decides t (a ≡ b)) xs ys r → r ≡ sameBytes xs ys
 compared xs ys r h = same-from-decides r (sameBytes xs ys) (matches-decides xs ys r h) (sameBytes-decides xs ys)

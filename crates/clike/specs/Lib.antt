@@ -5,3 +5,5 @@ pub mod Cutting
 pub mod Clikes
 pub mod States
 pub mod Covering
+pub mod Laws
+pub mod Worked

@@ -50,8 +50,8 @@ returns-in-rest c =
     let front = c .split-at-in-rest .ensures .front in
     let pre = c .pre .1 in
     let shape-is : first-shape (getD bytes 0 0) (read (drop 1 bytes)) ≡ shape mark 1 = elim (c .in-rest .came) [
-      in-rest·by·then-bytes-lt2 w ↦ slash-read bytes pre (λ h. absurd (omega (arith, ltb-true))) (λ h. absurd (omega (arith, ltb-true)))
-    | in-rest·by·else-bytes-lt2·in-47··in-rest· w ↦ slash-read bytes pre (λ h e. omega arith) (λ h e. omega arith)
-    | in-rest·by·else-bytes-lt2·in-rest· w ↦ absurd (omega arith)
+      | in-rest·by·then-bytes-lt2 w ↦ slash-read bytes pre (λ h. absurd (omega (arith, ltb-true))) (λ h. absurd (omega (arith, ltb-true)))
+      | in-rest·by·else-bytes-lt2·in-47··in-rest· w ↦ slash-read bytes pre (λ h e. omega arith) (λ h e. omega arith)
+      | in-rest·by·else-bytes-lt2·in-rest· w ↦ absurd (omega arith)
     ] in
     cuts bytes _ _ mark 1 (c .pre .0) (λ z. omega arith) shape-is (ap (lexeme-of mark) front) front (c .split-at-in-rest .ensures .back)

@@ -8,9 +8,9 @@ loop-i-again c =
 
 pub returns-then-eq : need.returns-then-eq
 returns-then-eq c = record {
-      place = sym (sym (c .loop-i .inv) ∙ word-here (c .args .run .now) (c .args .words .now) (c .loop-i .i) _ (c .loop-i-test .taken) (sym (compared _ _ _ (c .eq .ensures)) ∙ c .if-eq .taken));
-      within = c .loop-i-test .taken;
-    }
+  place = sym (sym (c .loop-i .inv) ∙ word-here (c .args .run .now) (c .args .words .now) (c .loop-i .i) _ (c .loop-i-test .taken) (sym (compared _ _ _ (c .eq .ensures)) ∙ c .if-eq .taken));
+  within = c .loop-i-test .taken;
+}
 
 pub returns : need.returns
 returns c = record { place = sym (sym (c .loop-i .inv) ∙ word-nowhere (c .args .run .now) (c .args .words .now) (c .loop-i .i) (c .loop-i-test .left)); within = tt }

@@ -30,14 +30,14 @@ loop-i-again c =
     let xs = c .args .body .now in
     let i = c .loop-i .i in
     elim (c .if-taken .came) [
-      then-taken w ↦
-        let one = ap (λ t. quoted-on q t (read (drop i xs))) (w .if-taken .taken) ∙ quote-taken q xs i (c .loop-i-test .taken) (c .if-b-eq0 .left) in
-        let same = ap (λ t. quoted-on q t (read (drop (i + 1) xs))) (w .taken-is) in
-        omega (arith, one, same, c .loop-i .inv)
-    | else-taken·else-b-quote·else-b-eq10 w ↦
-        let one = ap (λ t. quoted-on q t (read (drop i xs))) (w .if-taken .left) ∙ quote-on q xs i (c .loop-i-test .taken) (c .if-b-eq0 .left) (w .if-b-quote .left) (w .if-b-eq10 .left) in
-        let same = ap (λ t. quoted-on q t (read (drop (i + 1) xs))) (w .taken-is) in
-        omega (arith, one, same, c .loop-i .inv)
+      | then-taken w ↦
+          let one = ap (λ t. quoted-on q t (read (drop i xs))) (w .if-taken .taken) ∙ quote-taken q xs i (c .loop-i-test .taken) (c .if-b-eq0 .left) in
+          let same = ap (λ t. quoted-on q t (read (drop (i + 1) xs))) (w .taken-is) in
+          omega (arith, one, same, c .loop-i .inv)
+      | else-taken·else-b-quote·else-b-eq10 w ↦
+          let one = ap (λ t. quoted-on q t (read (drop i xs))) (w .if-taken .left) ∙ quote-on q xs i (c .loop-i-test .taken) (c .if-b-eq0 .left) (w .if-b-quote .left) (w .if-b-eq10 .left) in
+          let same = ap (λ t. quoted-on q t (read (drop (i + 1) xs))) (w .taken-is) in
+          omega (arith, one, same, c .loop-i .inv)
     ]
 
 pub returns : need.returns

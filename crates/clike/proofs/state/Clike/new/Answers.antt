@@ -3,6 +3,7 @@ use Prim.Native.Nat.{_+_}
 use native.Mathlib.Omega.{arith}
 use native.Mathlib.Nat.{zero-add}
 use lib.ListN.{length}
+use Rattle.tokens.specs.Texts.{text-ending}
 use Rattle.clike.specs.Lexemes.{lexemes}
 use Rattle.clike.specs.Clikes.{tokens-of, or-else, open-fault}
 use Rattle.clike.specs.Covering.{End-to-end}
@@ -18,7 +19,7 @@ returns c =
     let chain : End-to-end 0 (tokens-of 0 (lexemes bytes)) (length bytes) = subst (End-to-end 0 (tokens-of 0 (lexemes bytes))) (zero-add (length bytes)) (chain-end-to-end 0 (0 + length bytes) (tokens-of 0 (lexemes bytes)) (chain-text 0 bytes (text .plain) (omega (arith, text .within)))) in
     record {
       tokens = ap (λ xs. tokens-of 0 (lexemes xs)) same;
-      ending = ap (λ e. or-else e (open-fault 0 (lexemes bytes))) (c .of-text .ensures .ending) ∙ ap (λ xs. or-else _ (open-fault 0 (lexemes xs))) same;
+      ending = ap (λ e. or-else e (open-fault 0 (lexemes bytes))) (c .of-text .ensures .ending) ∙ ap (λ xs. or-else (text-ending (c .args .file .now)) (open-fault 0 (lexemes xs))) same;
       chained = subst (λ n. End-to-end 0 (tokens-of 0 (lexemes bytes)) n) (ap length same) chain;
       once = covers-once _ _ (subst (λ n. End-to-end 0 (tokens-of 0 (lexemes bytes)) n) (ap length same) chain);
     }
