@@ -1,0 +1,10 @@
+pub mod Plain
+pub mod Endings
+pub mod Words
+pub mod Fronts
+pub mod Shapes
+pub mod Pieces
+pub mod Chains
+pub mod Steps
+pub mod Covered
+pub mod Lawful

@@ -1,0 +1,8 @@
+use mathlib.Core.Path.{refl}
+use Rattle.clike.specs.Keywords.{keywords, keyword-number}
+use Rattle.clike.specs.Lexemes.{block-comment, first-shape, lexemes-in}
+use Rattle.clike.proofs.laws.worked_cases.Needs as need
+
+pub returns : need.returns
+unfolding keywords keyword-number block-comment first-shape lexemes-in
+returns c = record { if-ab = refl; open-tokens = refl; open-ending = refl }

@@ -1,0 +1,10 @@
+pub mod Texts
+pub mod Keywords
+pub mod Lexemes
+pub mod Scans
+pub mod Cutting
+pub mod Clikes
+pub mod States
+pub mod Covering
+pub mod Laws
+pub mod Worked
