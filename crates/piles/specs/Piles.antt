@@ -7,11 +7,13 @@ use Rattle.tokens.specs.declared.token.Fault.{Fault}
 use Rattle.tokens.specs.declared.collected.Collected.{Collected}
 use Rattle.tokens.specs.Texts.{text-ending}
 use Rattle.tokens.specs.Proses.{prose-tokens}
+use Rattle.clike.specs.Texts.{text-read}
+use Rattle.clike.specs.Clikes.{clike-tokens, clike-ending}
 use Rattle.layers.specs.Layers.{deeper, lowered, without}
 use Rattle.layers.specs.Names.{named, named-ending}
 use Rattle.tokens.specs.Collecting.{collected-left}
 use Rattle.piles.specs.declared.pile.Reader.{Reader}
-use Rattle.piles.specs.declared.pile.Reader.the-variants.{Prose}
+use Rattle.piles.specs.declared.pile.Reader.the-variants.{Prose, Clike}
 use Rattle.piles.specs.declared.pile.Layer.{Layer}
 use Rattle.piles.specs.declared.pile.Layer.the-variants.{Case, Drop, Names}
 
@@ -27,6 +29,7 @@ stream c = record { tokens = collected-left c; ending = c .ending; depth = c .de
 -- a file as its reader reads it
 abbrev pub read-as : Reader → List ℕ → Stream
 read-as Prose file = record { tokens = prose-tokens file; ending = text-ending file 0; depth = 0 }
+read-as Clike file = record { tokens = clike-tokens (text-read file); ending = clike-ending file; depth = 0 }
 
 -- a layer over what is below it
 abbrev pub put-on : Layer → Stream → Stream

@@ -13,7 +13,7 @@ use Rattle.std.specs.declared.result.Result.{Result}
 use Rattle.std.specs.declared.result.Result.the-variants.{Ok, Err}
 use Rattle.tokens.specs.Bytes.{is-digit, between}
 use Rattle.piles.specs.declared.pile.Reader.{Reader}
-use Rattle.piles.specs.declared.pile.Reader.the-variants.{Prose}
+use Rattle.piles.specs.declared.pile.Reader.the-variants.{Prose, Clike}
 use Rattle.piles.specs.declared.pile.Layer.{Layer}
 use Rattle.piles.specs.declared.pile.Layer.the-variants.{Case, Drop, Names}
 use Rattle.piles.specs.declared.words.Unread.{Unread}
@@ -42,6 +42,6 @@ layer-of word =
     (cond (sameBytes (take 5 word) (codes "drop=")) (dropping (class-of (drop 5 word)))
     (Err UnknownWord)))
 
--- `prose`
+-- `prose` or `clike`
 abbrev pub reader-of : List ℕ → Option Reader
-reader-of word = cond (sameBytes word (codes "prose")) (Some Prose) None
+reader-of word = cond (sameBytes word (codes "prose")) (Some Prose) (cond (sameBytes word (codes "clike")) (Some Clike) None)

@@ -2,6 +2,8 @@
 ghost use mathlib.Core.Path.{_≡_};
 ghost use Rattle.std.specs.Vec.{made};
 ghost use Rattle.piles.specs.Piles.{stream, read-as, put-on, piled};
+use clike::reading::ClikeSource;
+use clike::state::Clike;
 use layers::case::Case;
 use layers::case::CaseSource;
 use layers::dropping::DropClass;
@@ -19,6 +21,7 @@ use tokens::prose::ProseSource;
 #[derive(Clone, Copy)]
 pub enum Reader {
     Prose,
+    Clike,
 }
 
 // A layer to be put on.
@@ -35,6 +38,7 @@ fn read(heap: Global, reader: Reader, file: &[u8]) -> Result<Collected, AllocErr
 {
     match reader {
         Reader::Prose => Collected::of(heap, Prose::new(file)),
+        Reader::Clike => Collected::of(heap, Clike::new(file)),
     }
 }
 

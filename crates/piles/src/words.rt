@@ -53,8 +53,10 @@ pub fn reader_of(word: &str) -> Option<Reader>
     ensures { λ r. ⌜ r ≡ reader-of (now (word .entry)) ⌝ }
 {
     if word == "prose" {
-        Some(Reader::Prose)
-    } else {
-        None
+        return Some(Reader::Prose);
     }
+    if word == "clike" {
+        return Some(Reader::Clike);
+    }
+    None
 }
