@@ -8,3 +8,4 @@ pub mod Chains
 pub mod Steps
 pub mod Covered
 pub mod Lawful
+pub mod Rows

@@ -1,10 +1,15 @@
 // Cutting bytes into lexemes.
 ghost use mathlib.Core.Path.{_≡_};
 ghost use mathlib.Core.Bool.{true};
+ghost use mathlib.Core.List.{map};
 ghost use Prim.Native.Nat.{_<_};
 ghost use lib.ListN.{length, getD};
-ghost use Rattle.clike.specs.Cutting.{Cuts};
-ghost use Rattle.clike.specs.Lexemes.{begins-word};
+ghost use Rattle.std.specs.Joined.{joined};
+ghost use Rattle.std.specs.Of.Vec.{vec-items};
+ghost use Rattle.std.specs.Vec.{made};
+ghost use Rattle.std.specs.declared.option.Option.the-variants.{Some};
+ghost use Rattle.clike.specs.Cutting.{lexeme-bytes, seen, Cuts};
+ghost use Rattle.clike.specs.Lexemes.{read, begins-word, lexemes};
 use crate::keyword::keyword_number;
 use crate::lexeme::Lexeme;
 use crate::scan::CommentEnd;
@@ -12,6 +17,8 @@ use crate::scan::Run;
 use crate::scan::comment_end;
 use crate::scan::quoted_length;
 use crate::scan::run_length;
+use std::alloc::AllocError;
+use std::alloc::Global;
 
 // The first lexeme, and the rest of the bytes. Reads up to the first zero byte.
 pub fn cut<'a>(bytes: &'a [u8]) -> (Lexeme<'a>, &'a [u8])
@@ -40,6 +47,23 @@ pub fn cut<'a>(bytes: &'a [u8]) -> (Lexeme<'a>, &'a [u8])
             let (run, rest) = bytes.split_at(1);
             (Lexeme::Mark(run), rest)
         }
+    }
+}
+
+// All lexemes of the bytes up to the first zero byte, cut from the left.
+pub fn cut_all<'a>(heap: Global, bytes: &'a [u8]) -> Result<Vec<Lexeme<'a>>, AllocError>
+    ensures lexemes { λ r. ⌜ made r (λ v. map seen (vec-items v) ≡ map Some (lexemes (read (now (bytes .entry))))) ⌝ }
+    ensures whole { λ r. ⌜ made r (λ v. joined lexeme-bytes (vec-items v) ≡ read (now (bytes .entry))) ⌝ }
+{
+    let mut list = Vec::new(heap);
+    let mut left = bytes;
+    loop {
+        let (lexeme, rest) = cut(left);
+        if let Lexeme::Nothing = lexeme {
+            return Ok(list);
+        }
+        list.push(lexeme)?;
+        left = rest;
     }
 }
 
