@@ -8,39 +8,19 @@ use native.Mathlib.Omega.{arith}
 use lib.Dec.{leb, ltb}
 use lib.ListN.{length, take, drop, getD}
 use Rattle.std.specs.shelf.Lists.{countBy}
-use Rattle.std.proofs.shelf.Lists.{append-nil, length-take, length-take-le, length-drop, drop-all, take-all}
+use Rattle.std.proofs.shelf.Lists.{append-nil, length-take, length-take-le, length-drop, drop-all, drop-drop, take-all}
 use Rattle.std.proofs.shelf.Sums.{sumBy-cons}
 use Rattle.std.proofs.shelf.Tests.{and-parts, and-from, and-left, and-right, ltb-true, cases-lt, lt-ltb, le-ltb, le-leb, lt-leb, cond-true, cond-false}
 use Rattle.tokens.specs.declared.token.Class.{Class}
 use Rattle.tokens.specs.declared.token.Token.{Token}
 use Rattle.tokens.specs.Tokens.{limit, class-number, Sound, Placed-from}
-use Rattle.clike.specs.Texts.{plain}
+use Rattle.clike.proofs.Plain.{plain, plain-head, plain-drop, plain-take}
 use Rattle.tokens.proofs.Placing.{placed-weaker}
 use Rattle.clike.specs.Lexemes.{Kind, blank, comment, open-comment, quoted, name, keyword, number, mark, Piece, piece-of, first-shape, lexemes-in, lexemes}
 use Rattle.clike.specs.Clikes.{first-class, further-class, byte-token, byte-tokens, spelled, keyword-token, kind-tokens, tokens-of}
 use Rattle.clike.specs.Covering.{End-to-end, covers, Covers-once}
 use Rattle.clike.proofs.Shapes.{Numbered, Fitting, shape-fits}
 use Rattle.clike.proofs.Pieces.{lexemes-none, lexemes-more}
-
--- ---- plain texts
-
-pub plain-head : (b : ℕ) (bs : List ℕ) → plain (b ∷ bs) ≡ true → (0 < b) × (b < 256) × (plain bs ≡ true)
-plain-head b bs e =
-    let parts = and-parts (ltb 0 b && ltb b 256) (plain bs) e in
-    let byte = and-parts (ltb 0 b) (ltb b 256) (parts .0) in
-    (ltb-true 0 b (byte .0), ltb-true b 256 (byte .1), parts .1)
-
-pub plain-drop : (n : ℕ) (xs : List ℕ) → plain xs ≡ true → plain (drop n xs) ≡ true
-plain-drop zero xs e = e
-plain-drop (suc n) [] e = e
-plain-drop (suc n) (b ∷ bs) e = plain-drop n bs (plain-head b bs e .2)
-
-pub plain-take : (n : ℕ) (xs : List ℕ) → plain xs ≡ true → plain (take n xs) ≡ true
-plain-take zero xs e = refl
-plain-take (suc n) [] e = refl
-plain-take (suc n) (b ∷ bs) e =
-    let parts = and-parts (ltb 0 b && ltb b 256) (plain bs) e in
-    and-from (ltb 0 b && ltb b 256) (plain (take n bs)) (parts .0) (plain-take n bs (parts .1))
 
 -- ---- sound tokens, end to end
 
@@ -101,21 +81,22 @@ chain-text at text p h = chain-in (length text) at (at + length text) text (omeg
 
 -- ---- what is still to come of a source is well placed
 
-pub placed-at : (text : List ℕ) (at left : ℕ) (c : Class) → 1 ≤ class-number c → plain text ≡ true → length text ≤ limit
+pub placed-at : (text : List ℕ) (at left : ℕ) (c : Class) → 1 ≤ class-number c → plain (drop at text) ≡ true → length text ≤ limit
     → Placed-from 0 (byte-tokens at c (take left (drop at text)) ++ tokens-of (at + left) (lexemes (drop (at + left) text)))
 placed-at text at left c k p h =
     let rest = tokens-of (at + left) (lexemes (drop (at + left) text)) in
     let front = take left (drop at text) in
     let short = length-drop at text in
     let long = length-take left (drop at text) in
+    let later : plain (drop (at + left) text) ≡ true = ap plain (sym (drop-drop left at text)) ∙ plain-drop left (drop at text) p in
     let behind : Placed-from (at + left) rest = ⊎-elim
     (λ more. let size = length-drop (at + left) text in
-    subst (Placed-from (at + left)) (append-nil rest) (chain-placed (at + left) (at + left + length (drop (at + left) text)) rest [] (chain-text (at + left) (drop (at + left) text) (plain-drop (at + left) text p) (omega arith)) tt))
+    subst (Placed-from (at + left)) (append-nil rest) (chain-placed (at + left) (at + left + length (drop (at + left) text)) rest [] (chain-text (at + left) (drop (at + left) text) later (omega arith)) tt))
     (λ none. subst (Placed-from (at + left)) (sym (ap (tokens-of (at + left)) (ap lexemes (drop-all (at + left) text none) ∙ lexemes-none))) tt)
     (cases-lt (at + left) (length text)) in
     ⊎-elim
     (λ more. placed-weaker at 0 (byte-tokens at c front ++ rest) (omega arith)
-    (chain-placed at (at + length front) (byte-tokens at c front) rest (chain-bytes at (at + length front) c front k (plain-take left (drop at text) (plain-drop at text p)) refl (omega arith)) (placed-weaker (at + left) (at + length front) rest (omega arith) behind)))
+    (chain-placed at (at + length front) (byte-tokens at c front) rest (chain-bytes at (at + length front) c front k (plain-take left (drop at text) p) refl (omega arith)) (placed-weaker (at + left) (at + length front) rest (omega arith) behind)))
     (λ none. let empty : front ≡ [] = ap (take left) (drop-all at text none) ∙ take-all left [] (omega arith) in
     subst (λ xs. Placed-from 0 (byte-tokens at c xs ++ rest)) (sym empty) (placed-weaker (at + left) 0 rest (omega arith) behind))
     (cases-lt at (length text))

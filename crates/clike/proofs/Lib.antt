@@ -1,5 +1,4 @@
 pub mod Plain
-pub mod Endings
 pub mod Words
 pub mod Fronts
 pub mod Shapes
@@ -9,3 +8,4 @@ pub mod Steps
 pub mod Covered
 pub mod Lawful
 pub mod Rows
+pub mod Readings

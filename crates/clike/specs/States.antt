@@ -11,6 +11,8 @@ use Rattle.clike.specs.declared.state.Sort.{Sort}
 use Rattle.clike.specs.declared.state.Sort.the-variants as sort
 use Rattle.clike.specs.declared.state.Clike.{Clike}
 use Rattle.clike.specs.Lexemes.{Kind, blank, comment, quoted, name, number, mark, lexemes}
+use Rattle.tokens.specs.Texts.{text-ending}
+use Rattle.clike.specs.Texts.{text-at}
 use Rattle.clike.specs.Clikes.{first-class, further-class, byte-tokens, tokens-of, or-else, open-fault}
 
 abbrev pub sort-kind : Sort → Kind
@@ -32,11 +34,12 @@ abbrev pub tokens-at : List ℕ → ℕ → ℕ → Sort → List Token
 tokens-at text at left s = byte-tokens at (sort-further s) (take left (drop at text)) ++ tokens-of (at + left) (lexemes (drop (at + left) text))
 
 abbrev pub clike-left : Clike → List Token
-clike-left s = tokens-at (now (s .text .bytes)) (s .at) (s .left) (s .sort)
+clike-left s = tokens-at (text-at (now (s .file)) (s .at)) (s .at) (s .left) (s .sort)
 
--- the ending: what is known of it, or else the fault of an open comment that is still to come
-abbrev pub ending-at : List ℕ → ℕ → ℕ → Option Fault → Option Fault
-ending-at text at left known = or-else known (open-fault (at + left) (lexemes (drop (at + left) text)))
+-- the fault of an open comment: the one that was begun, or else one that is still to come
+abbrev pub open-at : List ℕ → ℕ → ℕ → Option Fault → Option Fault
+open-at text at left known = or-else known (open-fault (at + left) (lexemes (drop (at + left) text)))
 
+-- the ending: the fault of the file itself, or else that of an open comment
 abbrev pub ending-left : Clike → Option Fault
-ending-left s = ending-at (now (s .text .bytes)) (s .at) (s .left) (s .ending)
+ending-left s = or-else (text-ending (now (s .file)) (s .at)) (open-at (text-at (now (s .file)) (s .at)) (s .at) (s .left) (s .unclosed))

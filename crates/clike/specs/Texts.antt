@@ -1,27 +1,13 @@
 -- What is read of a file, as a part of it.
-use mathlib.Core.Bool.{Bool, true, cond, _&&_}
-use mathlib.Core.List.{List, [], _∷_}
-use Prim.Native.Nat.{ℕ}
-use lib.Dec.{ltb}
-use lib.ListN.{length, take}
-use Rattle.std.specs.shelf.Lists.{leading}
-use Rattle.std.specs.declared.option.Option.{Option}
-use Rattle.std.specs.declared.option.Option.the-variants.{Some, None}
-use Rattle.tokens.specs.declared.token.Cause.the-variants.{TooLong, ZeroByte}
-use Rattle.tokens.specs.declared.token.Fault.{Fault}
-use Rattle.tokens.specs.Texts.{nonzero, too-long, file-fault}
-
--- each number is a byte, and none is 0
-abbrev pub plain : List ℕ → Bool
-plain [] = true
-plain (b ∷ bs) = (ltb 0 b && ltb b 256) && plain bs
+use mathlib.Core.List.{List}
+use Prim.Native.Nat.{ℕ, _+_}
+use lib.ListN.{take}
+use Rattle.tokens.specs.Texts.{readable}
 
 -- the bytes before the first zero byte; nothing of a file over the limit
 abbrev pub text-read : List ℕ → List ℕ
-text-read file = cond (too-long file) [] (take (leading nonzero file) file)
+text-read file = take (readable file 0) file
 
--- the ending of a file that is read from its first byte on
-abbrev pub whole-ending : List ℕ → Option Fault
-whole-ending file =
-    cond (too-long file) (Some (file-fault TooLong 0))
-    (cond (ltb (leading nonzero file) (length file)) (Some (file-fault ZeroByte (leading nonzero file))) None)
+-- the file up to where reading from place i on ends
+abbrev pub text-at : List ℕ → ℕ → List ℕ
+text-at file i = take (i + readable file i) file

@@ -6,4 +6,3 @@ pub mod lexeme;
 pub mod reading;
 pub mod scan;
 pub mod state;
-pub mod text;

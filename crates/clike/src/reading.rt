@@ -14,12 +14,14 @@ use crate::cutting::cut;
 use crate::lexeme::Lexeme;
 use crate::state::Clike;
 use crate::state::Sort;
+use tokens::bytes::are_bytes;
 use tokens::source::Source;
-use crate::text::Text;
 use tokens::token::Cause;
 use tokens::token::Class;
 use tokens::token::Fault;
+use tokens::token::LIMIT;
 use tokens::token::Token;
+use tokens::token::file_fault;
 
 // The code of the keyword with the number 0.
 const FIRST_KEYWORD: u16 = 256;
@@ -61,24 +63,24 @@ impl<'a> Clike<'a> {
         ensures chained { λ r. ⌜ End-to-end 0 (clike-left r) (length (text-read (now (file .entry)))) ⌝ }
         ensures once { λ r. ⌜ Covers-once (clike-left r) (length (text-read (now (file .entry)))) ⌝ }
     {
-        let text = Text::of(file);
+        are_bytes(file);
         Clike {
-            text,
+            file,
             at: 0,
             left: 0,
             sort: Sort::Mark,
-            ending: text.ending,
+            unclosed: None,
         }
     }
 }
 
 // The token of the byte at a place.
-fn token_at(text: &[u8], at: usize, class: Class) -> Token
-    requires { ⌜ at < length (now text) ⌝ ∗ ⌜ length (now text) ≤ 1048576 ⌝ }
-    ensures { λ r. ⌜ r ≡ byte-token at class (getD (now (text .entry)) at 0) ⌝ }
+fn token_at(file: &[u8], at: usize, class: Class) -> Token
+    requires { ⌜ at < length (now file) ⌝ ∗ ⌜ length (now file) ≤ 1048576 ⌝ }
+    ensures { λ r. ⌜ r ≡ byte-token at class (getD (now (file .entry)) at 0) ⌝ }
 {
     Token {
-        code: u16::from(text[at]),
+        code: u16::from(file[at]),
         class,
         from: at as u32,
         to: at as u32 + 1,
@@ -88,30 +90,30 @@ fn token_at(text: &[u8], at: usize, class: Class) -> Token
 impl Clike<'_> {
     // The token of the next byte, which begins a lexeme of some bytes.
     fn spell(&mut self, sort: Sort, size: usize) -> Token
-        requires { ⌜ now self .at < length (now (now self .text .bytes)) ⌝ ∗ ⌜ 0 < size ⌝ }
-        ensures token { λ r. ⌜ r ≡ byte-token (now (self .entry) .at) (sort-first sort) (getD (now (now (self .entry) .text .bytes)) (now (self .entry) .at) 0) ⌝ }
-        ensures text { λ r. ⌜ now (self .exit) .text .bytes ≡ now (self .entry) .text .bytes ⌝ }
+        requires { ⌜ now self .at < length (now (now self .file)) ⌝ ∗ ⌜ length (now (now self .file)) ≤ 1048576 ⌝ ∗ ⌜ 0 < size ⌝ }
+        ensures token { λ r. ⌜ r ≡ byte-token (now (self .entry) .at) (sort-first sort) (getD (now (now (self .entry) .file)) (now (self .entry) .at) 0) ⌝ }
+        ensures file { λ r. ⌜ now (self .exit) .file ≡ now (self .entry) .file ⌝ }
         ensures at { λ r. ⌜ now (self .exit) .at ≡ now (self .entry) .at + 1 ⌝ }
         ensures left { λ r. ⌜ now (self .exit) .left ≡ size - 1 ⌝ }
         ensures sort { λ r. ⌜ now (self .exit) .sort ≡ sort ⌝ }
-        ensures ending { λ r. ⌜ now (self .exit) .ending ≡ now (self .entry) .ending ⌝ }
+        ensures unclosed { λ r. ⌜ now (self .exit) .unclosed ≡ now (self .entry) .unclosed ⌝ }
     {
-        let token = token_at(self.text.bytes, self.at, sort.first());
+        let token = token_at(self.file, self.at, sort.first());
         self.at += 1;
         self.left = size - 1;
         self.sort = sort;
         token
     }
 
-    // The comment that begins at the next byte is open: the list ends in its fault, unless the file has one.
+    // The comment that begins at the next byte is open: the list ends in its fault, unless the file has one of its own.
     fn note_open(&mut self)
-        requires { ⌜ now self .at < length (now (now self .text .bytes)) ⌝ }
-        ensures text { λ r. ⌜ now (self .exit) .text .bytes ≡ now (self .entry) .text .bytes ⌝ }
+        requires { ⌜ now self .at < length (now (now self .file)) ⌝ ∗ ⌜ length (now (now self .file)) ≤ 1048576 ⌝ }
+        ensures file { λ r. ⌜ now (self .exit) .file ≡ now (self .entry) .file ⌝ }
         ensures at { λ r. ⌜ now (self .exit) .at ≡ now (self .entry) .at ⌝ }
-        ensures ending { λ r. ⌜ now (self .exit) .ending ≡ or-else (now (self .entry) .ending) (Some (file-fault OpenComment (now (self .entry) .at))) ⌝ }
+        ensures unclosed { λ r. ⌜ now (self .exit) .unclosed ≡ or-else (now (self .entry) .unclosed) (Some (file-fault OpenComment (now (self .entry) .at))) ⌝ }
     {
-        if self.ending.is_none() {
-            self.ending = Some(Fault {
+        if self.unclosed.is_none() {
+            self.unclosed = Some(Fault {
                 cause: Cause::OpenComment,
                 place: self.at as u32,
                 depth: 0,
@@ -121,12 +123,15 @@ impl Clike<'_> {
 
     // Begins the next lexeme: its first token.
     fn begin(&mut self) -> Token
-        requires { ⌜ now self .at < length (now (now self .text .bytes)) ⌝ ∗ ⌜ now self .left ≡ 0 ⌝ }
+        requires within { ⌜ now self .at < length (now (now self .file)) ⌝ }
+        requires short { ⌜ length (now (now self .file)) ≤ 1048576 ⌝ }
+        requires some { ⌜ (getD (now (now self .file)) (now self .at) 0 ≡ 0 → ⊥) ⌝ }
+        requires new { ⌜ now self .left ≡ 0 ⌝ }
         ensures token { λ r. ⌜ clike-left (now (self .entry)) ≡ r ∷ clike-left (now (self .exit)) ⌝ }
         ensures ends { λ r. ⌜ ending-left (now (self .exit)) ≡ ending-left (now (self .entry)) ⌝ }
     {
-        let bytes = self.text.bytes;
-        let (lexeme, _) = cut(&bytes[self.at..]);
+        let file = self.file;
+        let (lexeme, _) = cut(&file[self.at..]);
         match lexeme {
             Lexeme::Nothing => unreachable(),
             Lexeme::Blank(run) => self.spell(Sort::Blank, run.len()),
@@ -160,19 +165,28 @@ pub impl Source for Clike<'_> as ClikeSource {
 
     ghost depth = { λ _. 0 };
 
-    fn lawful(&self) {}
+    fn lawful(&self) {
+        are_bytes(self.file);
+    }
 
     fn next(&mut self) -> Result<Option<Token>, Fault> {
-        if self.at >= self.text.bytes.len() {
-            return match self.ending {
+        if self.file.len() > LIMIT {
+            return Err(file_fault(Cause::TooLong, 0));
+        }
+        if self.at >= self.file.len() {
+            return match self.unclosed {
                 None => Ok(None),
                 Some(fault) => Err(fault),
             };
         }
+        let b = self.file[self.at];
+        if b == 0 {
+            return Err(file_fault(Cause::ZeroByte, self.at as u32));
+        }
         if self.left == 0 {
             return Ok(Some(self.begin()));
         }
-        let token = token_at(self.text.bytes, self.at, self.sort.further());
+        let token = token_at(self.file, self.at, self.sort.further());
         self.at += 1;
         self.left -= 1;
         Ok(Some(token))

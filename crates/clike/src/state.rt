@@ -1,5 +1,4 @@
 // The state of a C-like source.
-use crate::text::Text;
 use tokens::token::Fault;
 
 // The lexemes that give one token a byte.
@@ -14,12 +13,12 @@ pub enum Sort {
 }
 
 // A C-like file. `at` is the place of the next byte; `left` is how many bytes from there on belong to the lexeme that was
-// begun, and `sort` is what it is; `ending` is the fault of the file, or of the open comment that was begun.
+// begun, and `sort` is what it is; `unclosed` is the fault of the open comment that was begun, if one was.
 #[derive(Clone, Copy)]
 pub struct Clike<'a> {
-    pub text: Text<'a>,
+    pub file: &'a [u8],
     pub at: usize,
     pub left: usize,
     pub sort: Sort,
-    pub ending: Option<Fault>,
+    pub unclosed: Option<Fault>,
 }

@@ -1,9 +1,9 @@
 // Lists of tokens, and their endings.
 use clike::reading::ClikeSource;
 use clike::state::Clike;
+use layers::names::Names;
+use layers::names::NamesSource;
 use std::test::*;
-use tokens::names::Names;
-use tokens::naming::NamesSource;
 use tokens::source::Source;
 use tokens::token::Fault;
 use tokens::token::Token;

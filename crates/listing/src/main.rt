@@ -32,7 +32,10 @@ impl fmt::Display for Stop as StopDisplay {
             Stop::Usage => f.write_str(
                 "write: listing FILE READER LAYER.., as listing report.txt prose drop=1 case names",
             ),
-            Stop::UnknownReader(word) => write!(f, "no reader is called '{word}': write prose or clike"),
+            Stop::UnknownReader(word) => write!(
+                f,
+                "no reader is called '{word}': write prose or clike"
+            ),
             Stop::UnknownLayer(word) => write!(
                 f,
                 "no layer is called '{word}': write case, names or drop=CLASS"

@@ -5,6 +5,7 @@ use mathlib.Core.Logic.{⊎-elim}
 use mathlib.Core.List.{List, [], _∷_}
 use Prim.Native.Nat.{ℕ, zero, suc, _+_, _-_, _≤_, _<_}
 use native.Mathlib.Omega.{arith}
+use native.Mathlib.Nat.{add-zero}
 use lib.Dec.{eqb, ltb}
 use lib.ListN.{length, drop, getD}
 use Rattle.std.specs.shelf.Lists.{leading}
@@ -87,3 +88,22 @@ reads-some file i d h z =
     let short = reads-within file i (omega arith) .1 in
     let passes = leading-passes nonzero (drop i file) d (omega (arith, h, reads file i short)) in
     eqb-false (getD file (i + d) 0) 0 (not-true (eqb (getD file (i + d) 0) 0) (ap nonzero (sym (getD-drop i file d 0)) ∙ passes)) z
+
+-- ---- some bytes are read
+
+pub reads-on : (file : List ℕ) (i d : ℕ) → d ≤ readable file i → readable file (i + d) + d ≡ readable file i
+reads-on file i zero h = omega (arith, ap (readable file) (add-zero i))
+reads-on file i (suc d) h =
+    let before = reads-on file i d (omega arith) in
+    let some : 0 < readable file (i + d) = omega (arith, before) in
+    let within = reads-within file (i + d) some in
+    let here : i + d + 0 ≡ i + d = omega arith in
+    let full : getD file (i + d) 0 ≡ 0 → ⊥ = λ z. reads-some file (i + d) 0 some (ap (λ k. getD file k 0) here ∙ z) in
+    let one = reads-more file (i + d) (within .1) (omega (arith, within .0)) full in
+    let there : i + d + 1 ≡ i + suc d = omega arith in
+    omega (arith, before, one, ap (readable file) there)
+
+pub ends-on : (file : List ℕ) (i d : ℕ) → d ≤ readable file i → text-ending file (i + d) ≡ text-ending file i
+ends-on file i d h =
+    let same : i + d + readable file (i + d) ≡ i + readable file i = omega (arith, reads-on file i d h) in
+    ap (λ end. cond (too-long file) (Some (file-fault TooLong 0)) (cond (ltb end (length file)) (Some (file-fault ZeroByte end)) None)) same
