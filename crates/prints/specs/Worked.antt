@@ -11,7 +11,7 @@ use Rattle.prints.specs.Hashes.{polynomial, cyclic}
 abbrev pub chosen-of : ℕ → List ℕ → List ℕ
 chosen-of w row = chosen rank w (λ p. getD row p 0) (length row)
 
--- the row of the paper on winnowing
+-- the row of numbers in Winnowing, SIGMOD 2003
 abbrev pub row : List ℕ
 row = 77 ∷ 74 ∷ 42 ∷ 17 ∷ 98 ∷ 50 ∷ 17 ∷ 98 ∷ 8 ∷ 88 ∷ 67 ∷ 39 ∷ 77 ∷ 74 ∷ 42 ∷ 17 ∷ 98 ∷ []
 
