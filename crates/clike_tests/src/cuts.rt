@@ -1,5 +1,6 @@
 // Single cuts.
 use clike::cutting::cut;
+use clike::cutting::cut_all;
 use clike::lexeme::Lexeme;
 use std::test::*;
 
@@ -157,4 +158,27 @@ fn every_byte_alone() -> Result<(), Fail> {
         first_is(&bytes, kind_alone(b), if b == 0 { 0 } else { 1 })?;
     }
     Ok(())
+}
+
+#[test]
+fn all_lexemes(rt: LibcRuntime) -> Result<(), Fail> {
+    let list = cut_all(rt.alloc(), b"do/*a*/x+='b';\n//c\0d")?;
+    let mut kinds = Vec::new(rt.alloc());
+    for lexeme in list.iter() {
+        kinds.push(kind(lexeme))?;
+    }
+    check_eq(
+        kinds.as_slice(),
+        &[
+            KEYWORD,
+            COMMENT,
+            NAME,
+            MARK,
+            MARK,
+            QUOTED,
+            MARK,
+            BLANK,
+            COMMENT,
+        ],
+    )
 }

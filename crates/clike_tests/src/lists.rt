@@ -112,3 +112,28 @@ fn a_file_over_the_limit(rt: LibcRuntime) -> Result<(), Fail> {
     let mut none = Clike::new(more.as_slice());
     fault_is(none.next(), 1, 0)
 }
+
+// How many tokens a list has, if it ends clean before that many more than fit a file.
+fn count<S: Source>(source: &mut S) -> u32 {
+    let mut tokens = 0u32;
+    for _ in 0..1_048_577u32 {
+        match source.next() {
+            Ok(Some(_)) => tokens = tokens.saturating_add(1),
+            _ => return tokens,
+        }
+    }
+    tokens
+}
+
+// 65,536 lines of 16 bytes and 15 tokens each: as large as a file may be.
+#[test]
+fn a_large_file(rt: LibcRuntime) -> Result<(), Fail> {
+    let mut file = Vec::new(rt.alloc());
+    for _ in 0..65_536u32 {
+        file.extend_from_slice(b"if(ab)/*c*/\"d\" \n")?;
+    }
+    check_eq(file.len(), 1_048_576)?;
+    let mut source = Clike::new(file.as_slice());
+    check_eq(count(&mut source), 983_040)?;
+    clean(source.next())
+}
