@@ -1,0 +1,6 @@
+use mathlib.Core.Path.{_∙_}
+use Rattle.ordered.proofs.Moves.{moved-down}
+use Rattle.ordered.proofs.edit.close.Needs as need
+
+pub returns : need.returns
+returns g c = c .copy-within .ensures .after ∙ moved-down (c .args .list .now) (c .args .n) (c .args .i) (c .pre .0) (c .pre .1)
