@@ -22,7 +22,7 @@ use Rattle.order.proofs.Joins.{append-in, in-left, in-right, rising-append}
 use Rattle.order.proofs.Members.{in-kept, kept-passes, kept-in}
 use Rattle.order.proofs.Rises.{rising-kept}
 use Rattle.ordered.specs.Found.{lies-before, Cut, Seat, Stands}
-use Rattle.ordered.proofs.Places.{cut-lower, cut-upper}
+use Rattle.ordered.proofs.Places.{cut-lower, cut-upper, cut-not-less}
 use Rattle.ordered.proofs.Moves.{put-front, put-rest, out-front, out-rest}
 use Rattle.ordered.specs.Edited.{PutIn, Already, Missed, TakenOut, Thinned}
 use Rattle.std.proofs.shelf.Filters.{Keeping}
@@ -78,6 +78,9 @@ module _ {X : Type 0} {cmp : X → X → Ordering} (o : TotalOrder cmp) where
     -- a search for x itself: what stands before its place is less
     pub below-cut : (y : X) → In y (take i xs) → cmp y x ≡ Less
     below-cut = each-take (λ y. cmp y x ≡ Less) i xs (λ k d h l. cut-lower (λ y. cmp y x) (cut-steady x) xs c i f k d h)
+
+    pub not-below-cut : (y : X) → In y (drop i xs) → cmp y x ≡ Less → ⊥
+    not-below-cut = each-drop (λ y. cmp y x ≡ Less → ⊥) i xs (λ k d h l. cut-not-less (λ y. cmp y x) (cut-steady x) xs c i f k d h l)
 
     -- and what stands from its place on is greater, unless x stands there
     pub above-cut : (i < length xs → (d : X) → getD xs i d ≡ x → ⊥) → (y : X) → In y (drop i xs) → cmp x y ≡ Less

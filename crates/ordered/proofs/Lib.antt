@@ -1,3 +1,7 @@
 pub mod Places
 pub mod Moves
 pub mod Edits
+pub mod Merging
+pub mod Stages
+pub mod Joining
+pub mod Sorting

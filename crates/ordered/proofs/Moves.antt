@@ -7,7 +7,8 @@ use native.Mathlib.Numerals.{add-one}
 use lib.ListN.{length, getD, take, drop, set}
 use lib.Seq.{paste}
 use Rattle.std.specs.Holes.{inserted, removed}
-use Rattle.std.proofs.shelf.Lists.{append-assoc, length-take-le, length-drop, length-append, length-take, take-more, set-at, take-take, take-at, drop-at, drop-drop, take-append-drop}
+use Rattle.ordered.specs.Gathered.{moved, turned}
+use Rattle.std.proofs.shelf.Lists.{append-assoc, length-take-le, length-drop, length-append, length-take, take-more, set-at, take-take, take-at, drop-at, drop-drop, drop-take, take-append-drop}
 use Rattle.std.proofs.shelf.Parts.{between-is}
 use Rattle.std.proofs.shelf.Edits.{length-inserted, length-removed}
 
@@ -54,3 +55,47 @@ module _ {X : Type 0} (xs : List X) (n i : ℕ) where
       ∙ ap (drop 1) (drop-at R (drop (n - 1) xs) (n - 1) (out-length lt le))
       ∙ drop-drop 1 (n - 1) xs
       ∙ ap (λ k. drop k xs) same
+
+module _ {X : Type 0} (xs : List X) (from count to : ℕ) where
+  pub moved-is : paste xs to (drop from xs) (from + count - from) ≡ moved xs from count to
+  moved-is =
+      let same : from + count - from ≡ count = omega arith in
+      ap (λ k. take to xs ++ take k (drop from xs) ++ drop (to + k) xs) same ∙ append-assoc (take to xs) (take count (drop from xs)) (drop (to + count) xs)
+
+  pub moved-none : from ≡ to → xs ≡ moved xs from count to
+  moved-none e =
+      sym (take-append-drop to xs)
+      ∙ ap (λ l. take to xs ++ l) (sym (take-append-drop count (drop to xs)) ∙ ap₂ (λ a b. take count a ++ b) (ap (λ k. drop k xs) (sym e)) (drop-drop count to xs))
+
+  pub moved-length : to ≤ length xs → from + count ≤ length xs → length (take to xs ++ take count (drop from xs)) ≡ to + count
+  moved-length le lf =
+      let a = length-take-le to xs le in
+      let d = length-drop from xs in
+      let b = length-take-le count (drop from xs) (omega arith) in
+      length-append (take to xs) (take count (drop from xs)) ∙ ap₂ _+_ a b
+
+  -- past what was written nothing changes
+  pub moved-past : (n : ℕ) → to ≤ length xs → from + count ≤ length xs → to + count ≤ n → drop n (moved xs from count to) ≡ drop n xs
+  moved-past n le lf lo =
+      let F = take to xs ++ take count (drop from xs) in
+      let same : to + count + (n - (to + count)) ≡ n = omega arith in
+      ap (drop n) (sym (append-assoc (take to xs) (take count (drop from xs)) (drop (to + count) xs)))
+      ∙ ap (λ k. drop k (F ++ drop (to + count) xs)) (sym same)
+      ∙ sym (drop-drop (n - (to + count)) (to + count) (F ++ drop (to + count) xs))
+      ∙ ap (drop (n - (to + count))) (drop-at F (drop (to + count) xs) (to + count) (moved-length le lf))
+      ∙ drop-drop (n - (to + count)) (to + count) xs
+      ∙ ap (λ k. drop k xs) same
+
+  pub moved-front : to ≤ length xs → from + count ≤ length xs → take (to + count) (moved xs from count to) ≡ take to xs ++ take count (drop from xs)
+  moved-front le lf =
+      ap (take (to + count)) (sym (append-assoc (take to xs) (take count (drop from xs)) (drop (to + count) xs)))
+      ∙ take-at (take to xs ++ take count (drop from xs)) (drop (to + count) xs) (to + count) (moved-length le lf)
+
+pub turned-is : {X : Type 0} (xs ys : List X) (from first second k : ℕ) → k ≡ first + second → ys ≡ drop first (take k (drop from xs)) ++ take first (take k (drop from xs)) → take from xs ++ (ys ++ drop k (drop from xs)) ≡ turned xs from first second
+turned-is xs ys from first second k e h =
+    let D = drop from xs in
+    let p : drop first (take k D) ≡ take second (drop (from + first) xs) = ap (λ n. drop first (take n D)) e ∙ drop-take first second D ∙ ap (take second) (drop-drop first from xs) in
+    let q : take first (take k D) ≡ take first D = take-take first k D (omega arith) in
+    let r : drop k D ≡ drop (from + first + second) xs = drop-drop k from xs ∙ ap (λ n. drop n xs) (omega arith) in
+    let s = ap₂ _++_ p q in
+    cc

@@ -52,6 +52,9 @@ module _ {X : Type 0} {cmp : X → X → Ordering} (place : X → Ordering) (ste
   pub cut-lower : (i : ℕ) → Cut (λ x. lies-before false (place x)) xs i → (k : ℕ) (d : X) → k < i → place (getD xs k d) ≡ Less
   cut-lower i f k d h = let w = f .within in steady-at k (i - 1) d (omega arith) (omega arith) .0 (before-first _ (f .last (omega arith) d))
 
+  pub cut-not-less : (i : ℕ) → Cut (λ x. lies-before false (place x)) xs i → (k : ℕ) (d : X) → i ≤ k → k < length xs → place (getD xs k d) ≡ Less → ⊥
+  cut-not-less i f k d h l e = not-before-first _ (f .next (omega arith) d) (steady-at i k d h l .0 e)
+
   pub cut-upper : (i : ℕ) → Cut (λ x. lies-before false (place x)) xs i → (k : ℕ) (d : X) → (i < length xs → place (getD xs i d) ≡ Equal → ⊥) → i ≤ k → k < length xs → place (getD xs k d) ≡ Greater
   cut-upper i f k d gone h l =
       let lt : i < length xs = omega arith in
