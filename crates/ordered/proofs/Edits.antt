@@ -71,7 +71,7 @@ module _ {X : Type 0} {cmp : X → X → Ordering} (o : TotalOrder cmp) where
   pub greater-less : (x y : X) → cmp y x ≡ Greater → cmp x y ≡ Less
   greater-less x y g = o .flip x y ∙ ap reversed g
 
-  cut-steady : (x a b : X) → cmp a b ≡ Less → (cmp b x ≡ Less → cmp a x ≡ Less) × (cmp a x ≡ Greater → cmp b x ≡ Greater)
+  pub cut-steady : (x a b : X) → cmp a b ≡ Less → (cmp b x ≡ Less → cmp a x ≡ Less) × (cmp a x ≡ Greater → cmp b x ≡ Greater)
   cut-steady x a b l = (λ h. o .trans a b x l h, λ h. o .flip b x ∙ ap reversed (o .trans x a b (greater-less x a h) l))
 
   module _ (xs : List X) (i : ℕ) (x : X) (c : Rising cmp xs) (f : Cut (λ y. lies-before false (cmp y x)) xs i) where

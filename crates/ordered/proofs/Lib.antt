@@ -5,3 +5,4 @@ pub mod Merging
 pub mod Stages
 pub mod Joining
 pub mod Sorting
+pub mod Keys
