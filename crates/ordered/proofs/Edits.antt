@@ -1,17 +1,20 @@
 -- A rising list with one record more, or without one or those that a test names. Assumes nothing.
 use mathlib.Core.Path.{_≡_, refl, sym, ap, subst, _∙_}
-use mathlib.Core.Bool.{Bool, true, false, not}
+use mathlib.Core.Bool.{Bool, true, false, not, cond}
 use mathlib.Core.Logic.{_⊎_, inl, inr, ⊎-elim}
 use mathlib.Core.List.{List, [], _∷_, _++_}
 use Prim.Native.Nat.{ℕ, zero, suc, _+_, _-_, _≤_, _<_}
 use native.Mathlib.Omega.{arith}
 use native.Mathlib.Numerals.{add-one}
-use lib.ListN.{length, getD, take, drop}
+use lib.ListN.{length, getD, take, drop, set}
 use Rattle.std.specs.Holes.{inserted, removed}
 use Rattle.std.specs.Orderings.{reversed}
+use Rattle.std.specs.Results.{Cases as ByOk}
+use Rattle.std.specs.declared.result.Result.{Result}
+use Rattle.std.specs.declared.result.Result.the-variants.{Ok, Err}
 use Rattle.std.specs.shelf.Lists.{Has, kept-by}
-use Rattle.std.proofs.shelf.Lists.{take-append-drop, length-drop, length-take, getD-take, getD-drop, getD-default, drop-more}
-use Rattle.std.proofs.shelf.Tests.{not-true, not-from-false}
+use Rattle.std.proofs.shelf.Lists.{take-append-drop, length-drop, length-take, length-take-le, getD-take, getD-drop, getD-default, drop-more}
+use Rattle.std.proofs.shelf.Tests.{not-true, not-from-false, not-from-true}
 use Rattle.std.specs.declared.cmp.Ordering.{Ordering}
 use Rattle.std.specs.declared.cmp.Ordering.the-variants.{Less, Equal, Greater}
 use Rattle.order.specs.Total.{TotalOrder}
@@ -25,7 +28,7 @@ use Rattle.ordered.specs.Found.{lies-before, Cut, Seat, Stands}
 use Rattle.ordered.proofs.Places.{cut-lower, cut-upper, cut-not-less}
 use Rattle.ordered.proofs.Moves.{put-front, put-rest, out-front, out-rest}
 use Rattle.ordered.specs.Edited.{PutIn, Already, Missed, TakenOut, Thinned}
-use Rattle.std.proofs.shelf.Filters.{Keeping}
+use Rattle.std.proofs.shelf.Filters.{Keeping, keeping-more-no, keeping-more-set}
 
 module _ {X : Type 0} where
   -- the two parts of a rising list
@@ -162,17 +165,22 @@ module _ {X : Type 0} {cmp : X → X → Ordering} (o : TotalOrder cmp) (xs : Li
   pub already : Stands (take n xs) i x → Already xs xs n i x
   already h = let w = stands-within n xs i x h in record { same = refl; place = w .0; is = w .1 }
 
-  pub taken-out : (ys : List X) → n ≤ length xs → Stands (take n xs) i x → ys ≡ removed (take n xs) i ++ drop (n - 1) xs → TakenOut cmp xs ys n i x
+  pub taken-out : (ys : List X) → n ≤ length xs → Already xs xs n i x → ys ≡ removed (take n xs) i ++ drop (n - 1) xs → TakenOut cmp xs ys n i x
   taken-out ys le s e =
-      let w = stands-within n xs i x s in
-      let list = ap (take (n - 1)) e ∙ out-front xs n i (drop (n - 1) xs) (w .0) le in
+      let lt = s .place in
+      let l = length-take-le n xs le in
+      let list = ap (take (n - 1)) e ∙ out-front xs n i (drop (n - 1) xs) lt le in
       record {
-        place = w .0;
-        was = w .1;
+        place = lt;
+        was = s .is;
         list = list;
-        rest = ap (drop n) e ∙ out-rest xs n i (w .0) le;
-        lists = λ c. subst (λ l. ListsExactly cmp l (λ y. In y (take n xs) × (x ≡ y → ⊥))) (sym list) (out-lists o (take n xs) i x c (s .0) (s .1));
+        rest = ap (drop n) e ∙ out-rest xs n i lt le;
+        lists = λ c. subst (λ l. ListsExactly cmp l (λ y. In y (take n xs) × (x ≡ y → ⊥))) (sym list) (out-lists o (take n xs) i x c (omega arith) (λ d. getD-take n xs i d lt ∙ s .is d));
       }
+
+pub seated : {X : Type 0} {cmp : X → X → Ordering} (o : TotalOrder cmp) (xs : List X) (n : ℕ) (x : X) (r : Result ℕ ℕ) → ByOk r (λ i. Stands (take (n - 0) xs) i x) (λ i. Seat cmp (take (n - 0) xs) i x) → ByOk r (λ i. Already xs xs n i x) (λ i. Seat cmp (take n xs) i x × Missed cmp xs xs n x)
+seated o xs n x (Ok i) h = already o xs n i x (stands-front n xs i x h)
+seated o xs n x (Err i) h = let s = seat-front n xs i x h in (s, missed o xs n i x s)
 
 pub thinned : {X : Type 0} (cmp : X → X → Ordering) (test : X → Bool) (xs ys : List X) (n left i : ℕ) → Keeping (λ y. not (test y)) xs ys left i → i ≡ n → Thinned cmp test xs ys n left
 thinned cmp test xs ys n left i k e =
@@ -184,3 +192,8 @@ thinned cmp test xs ys n left i k e =
       rest = ap (λ m. drop m ys) (sym e) ∙ k .rest ∙ ap (λ m. drop m xs) e;
       lists = λ c. subst (λ l. ListsExactly cmp l (λ y. In y (take n xs) × (test y ≡ false))) (sym list) (kept-lists cmp test (take n xs) c);
     }
+
+-- one record more looked at: `named` says whether the test names it
+pub keeping-by : {X : Type 0} (test : X → Bool) {xs ys zs : List X} {left i r : ℕ} {x : X} (named : Bool) → Keeping (λ y. not (test y)) xs ys left i → i < length ys → named ≡ test x → x ≡ getD ys i x → r ≡ cond named left (left + 1) → zs ≡ cond named ys (set ys left x) → Keeping (λ y. not (test y)) xs zs r (i + 1)
+keeping-by test {xs} {ys} {zs} {left} {i} {r} {x} true k lt t e f g = subst (λ q. Keeping (λ y. not (test y)) xs zs q (i + 1)) (sym f) (subst (λ l. Keeping (λ y. not (test y)) xs l left (i + 1)) (sym g) (keeping-more-no k lt (not-from-true (test x) (sym t)) e))
+keeping-by test {xs} {ys} {zs} {left} {i} {r} {x} false k lt t e f g = subst (λ q. Keeping (λ y. not (test y)) xs zs q (i + 1)) (sym f) (subst (λ l. Keeping (λ y. not (test y)) xs l (left + 1) (i + 1)) (sym g) (keeping-more-set k lt (not-from-false (test x) (sym t)) e))

@@ -197,6 +197,9 @@ module _ {X : Type 0} {cmp : X → X → Ordering} (o : TotalOrder cmp) (before 
         stage = λ l m. stage-greater o (InEither before a b at) xs (a + b) at i j w x y li lj r q g (omega arith) xe ye (h .stage l m) e;
       }
 
+pub halfway-as : {X : Type 0} {cmp : X → X → Ordering} {before ys zs : List X} {a b at i j w : ℕ} → ys ≡ zs → Halfway cmp before zs a b at i j w → Halfway cmp before ys a b at i j w
+halfway-as {X} {cmp} {before} {ys} {zs} {a} {b} {at} {i} {j} {w} e h = subst (λ l. Halfway cmp before l a b at i j w) (sym e) h
+
 pub halfway-all : {X : Type 0} {cmp : X → X → Ordering} (before xs once twice : List X) (a b at i j w : ℕ) → Halfway cmp before xs a b at i j w → (i ≡ 0) ⊎ (j ≡ 0) → once ≡ moved xs at j i → twice ≡ moved once w (a + b - w) (i + j) → Merged cmp before twice a b at (i + j + (a + b - w))
 halfway-all {X} {cmp} before xs once twice a b at i j w h ends e1 e2 =
     let f = h .fits .1 in

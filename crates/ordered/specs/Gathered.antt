@@ -5,7 +5,7 @@ use mathlib.Core.List.{List, _++_}
 use Prim.Native.Nat.{ℕ, _+_, _-_, _≤_, _<_}
 use lib.ListN.{length, take, drop}
 use Rattle.std.specs.declared.cmp.Ordering.{Ordering}
-use Rattle.std.specs.declared.cmp.Ordering.the-variants.{Less}
+use Rattle.std.specs.declared.cmp.Ordering.the-variants.{Less, Equal, Greater}
 use Rattle.order.specs.Listed.{In, Rising, ListsExactly}
 
 -- `count` records from `from` on, copied to `to` on
@@ -15,6 +15,12 @@ moved xs from count to = take to xs ++ (take count (drop from xs) ++ drop (to + 
 -- two parts that stand side by side change places
 abbrev pub turned : {X : Type 0} → List X → ℕ → ℕ → ℕ → List X
 turned xs from first second = take from xs ++ ((take second (drop (from + first) xs) ++ take first (drop from xs)) ++ drop (from + first + second) xs)
+
+-- the larger of two records, by how the first stands to the second
+abbrev pub larger : {X : Type 0} → Ordering → X → X → X
+larger Less x y = y
+larger Equal x y = x
+larger Greater x y = x
 
 -- a record among the first a or among the b that stand at `at` and on
 abbrev pub InEither : {X : Type 0} → List X → ℕ → ℕ → ℕ → X → Type 0

@@ -2,13 +2,13 @@
 ghost use mathlib.Core.Path.{_≡_};
 ghost use mathlib.Core.List.{_++_};
 ghost use Prim.Native.Nat.{ℕ, _+_, _-_, _≤_, _<_};
-ghost use lib.ListN.{length, take, drop};
-ghost use Rattle.ordered.specs.Gathered.{moved, turned, Merged, Parting, Joined, Grown, Gathered, Sorted, TakenIn, AllIn};
+ghost use lib.ListN.{length, set, take, drop};
+ghost use Rattle.ordered.specs.Gathered.{moved, turned, larger, Merged, Parting, Joined, Grown, Gathered, Sorted, TakenIn, AllIn};
 use crate::edit::insert;
 use crate::insertion::Insertion;
 use crate::search::Exactly;
 use crate::search::ExactlyKey;
-use crate::search::cut;
+use crate::search::lower_bound;
 use order::Order;
 use std::cmp::Ordering;
 
@@ -31,6 +31,21 @@ fn turn<T: Order>(xs: &mut [T], from: usize, first: usize, second: usize)
     part.rotate_left(first);
 }
 
+// Writes the larger of x and y, and answers how x stands to y.
+fn write_larger<T: Order>(xs: &mut [T], w: usize, x: T, y: T) -> Ordering
+    requires { ⌜ w < length (now xs) ⌝ }
+    ensures answer { λ r. ⌜ r ≡ T·Order .cmp x y ⌝ }
+    ensures after { λ r. ⌜ now (xs .exit) ≡ set (now (xs .entry)) w (larger r x y) ⌝ }
+{
+    let answer = x.compare(&y);
+    match answer {
+        Ordering::Less => xs[w] = y,
+        Ordering::Equal => xs[w] = x,
+        Ordering::Greater => xs[w] = x,
+    }
+    answer
+}
+
 // Merges the first a records with b others that stand at `at` and on, largest first, so that no record is written over before it is read.
 // Of two equal ones one is kept.
 fn merge<T: Order>(xs: &mut [T], a: usize, b: usize, at: usize) -> usize
@@ -44,18 +59,15 @@ fn merge<T: Order>(xs: &mut [T], a: usize, b: usize, at: usize) -> usize
         let x = xs[i - 1];
         let y = xs[at + j - 1];
         w -= 1;
-        match x.compare(&y) {
+        match write_larger(xs, w, x, y) {
             Ordering::Less => {
-                xs[w] = y;
                 j -= 1;
             }
             Ordering::Equal => {
-                xs[w] = x;
                 i -= 1;
                 j -= 1;
             }
             Ordering::Greater => {
-                xs[w] = x;
                 i -= 1;
             }
         }
@@ -80,11 +92,11 @@ fn halve<T: Order>(xs: &[T], a: usize, b: usize) -> Halves
 {
     if b <= a {
         let i = a / 2;
-        let j = cut(&xs[a..a + b], &Exactly(xs[i]), false);
+        let j = lower_bound(&xs[a..a + b], &Exactly(xs[i]));
         Halves { i, j }
     } else {
         let j = b / 2;
-        let i = cut(&xs[0..a], &Exactly(xs[a + j]), false);
+        let i = lower_bound(&xs[0..a], &Exactly(xs[a + j]));
         Halves { i, j }
     }
 }
@@ -167,13 +179,29 @@ fn take_in<T: Order>(xs: &mut [T], n: usize, m: usize) -> usize
     join(xs, n, b, n + m)
 }
 
+// As far as the part reaches that an insertion of m records behind n uses: m entries past them, or all that are there.
+fn reach(len: usize, n: usize, m: usize) -> usize
+    requires { ⌜ n + m ≤ len ⌝ }
+    ensures within { λ r. ⌜ (n + m ≤ r) × (r ≤ len) × (r ≤ n + m + m) ⌝ }
+    ensures room { λ r. ⌜ (n + m + m ≤ len → r ≡ n + m + m) ⌝ }
+{
+    if m <= len - (n + m) { n + m + m } else { len }
+}
+
+// The same in the part before `end`.
+fn take_in_part<T: Order>(list: &mut [T], n: usize, m: usize, end: usize) -> usize
+    requires { ⌜ (n + m ≤ end) × (end ≤ length (now list)) × (end ≤ n + m + m) ⌝ }
+    ensures { λ r. ⌜ AllIn (T·Order .cmp) (now (list .entry)) (now (list .exit)) n m r ⌝ }
+{
+    take_in(&mut list[0..end], n, m)
+}
+
 // The m records behind the first n, which rise, become part of the list in one go, and the answer is how many there are then: of equal
 // records one is kept. Where another m entries are free they serve as room; the entries past these are untouched.
 pub fn insert_all<T: Order>(list: &mut [T], n: usize, m: usize) -> usize
     requires { ⌜ n + m ≤ length (now list) ⌝ }
     ensures { λ r. ⌜ AllIn (T·Order .cmp) (now (list .entry)) (now (list .exit)) n m r ⌝ }
 {
-    let free = list.len() - (n + m);
-    let end = if m <= free { n + m + m } else { list.len() };
-    take_in(&mut list[0..end], n, m)
+    let end = reach(list.len(), n, m);
+    take_in_part(list, n, m, end)
 }

@@ -1,5 +1,6 @@
 // Searches by a key of which the order of the records is no finer than the key's.
 ghost use mathlib.Core.Path.{_≡_};
+ghost use mathlib.Core.Bool.{true, false};
 ghost use Prim.Native.Nat.{ℕ, _-_, _≤_, _<_};
 ghost use denote.Ref.{now};
 ghost use lib.ListN.{length};
@@ -52,7 +53,7 @@ fn before(o: Ordering, past: bool) -> bool
 }
 
 // Where the records of the key begin, or where `past`, where they end. Halves the list in each turn.
-pub fn cut<T: Order, K: Key<T>>(list: &[T], key: &K, past: bool) -> usize
+fn cut<T: Order, K: Key<T>>(list: &[T], key: &K, past: bool) -> usize
     ensures { λ r. ⌜ Cut (λ x. lies-before past (K·Key .places (now (key .entry)) x)) (now (list .entry)) r ⌝ }
 {
     let mut low = 0;
@@ -68,14 +69,28 @@ pub fn cut<T: Order, K: Key<T>>(list: &[T], key: &K, past: bool) -> usize
     low
 }
 
+// The first place whose record is not less than the key.
+pub fn lower_bound<T: Order, K: Key<T>>(list: &[T], key: &K) -> usize
+    ensures { λ r. ⌜ Cut (λ x. lies-before false (K·Key .places (now (key .entry)) x)) (now (list .entry)) r ⌝ }
+{
+    cut(list, key, false)
+}
+
+// The first place whose record is greater than the key.
+pub fn upper_bound<T: Order, K: Key<T>>(list: &[T], key: &K) -> usize
+    ensures { λ r. ⌜ Cut (λ x. lies-before true (K·Key .places (now (key .entry)) x)) (now (list .entry)) r ⌝ }
+{
+    cut(list, key, true)
+}
+
 // The records of the key: where the list rises they stand together, from `from` to before `to`.
 pub fn range<T: Order, K: Key<T>>(list: &[T], key: &K) -> Span
     ensures within { λ r. ⌜ (r .from ≤ length (now (list .entry))) × (r .to ≤ length (now (list .entry))) ⌝ }
     ensures together { λ r. ⌜ (Rising (T·Order .cmp) (now (list .entry)) → Together (K·Key .places (now (key .entry))) (now (list .entry)) (r .from) (r .to)) ⌝ }
 {
     Span {
-        from: cut(list, key, false),
-        to: cut(list, key, true),
+        from: lower_bound(list, key),
+        to: upper_bound(list, key),
     }
 }
 
@@ -96,7 +111,7 @@ fn stands_at<T: Order>(list: &[T], place: usize, x: &T) -> bool
 pub fn find<T: Order>(list: &[T], x: T) -> Result<usize, usize>
     ensures { λ r. ⌜ ByOk r (λ i. Stands (now (list .entry)) i x) (λ i. Seat (T·Order .cmp) (now (list .entry)) i x) ⌝ }
 {
-    let i = cut(list, &Exactly(x), false);
+    let i = lower_bound(list, &Exactly(x));
     if stands_at(list, i, &x) {
         Ok(i)
     } else {

@@ -26,7 +26,9 @@ mod tests {
             requires { ⌜ 0 < n ⌝ }
             ensures { λ r. ⌜ r < n ⌝ }
         {
-            self.0 = self.0.wrapping_mul(6364136223846793005).wrapping_add(1442695040888963407);
+            self.0 = self.0
+                .wrapping_mul(6364136223846793005)
+                .wrapping_add(1442695040888963407);
             let high = self.0 >> 33;
             (high % n as u64) as u32
         }
@@ -87,7 +89,13 @@ mod tests {
     }
 
     // m numbers written behind the list and put in at once; the answer is the new count.
-    fn put_in_batch(list: &mut [u32], n: usize, m: usize, there: &mut [bool], numbers: &mut Numbers) -> Result<usize, Fail> {
+    fn put_in_batch(
+        list: &mut [u32],
+        n: usize,
+        m: usize,
+        there: &mut [bool],
+        numbers: &mut Numbers,
+    ) -> Result<usize, Fail> {
         check(n <= list.len() && m <= list.len() - n)?;
         for k in n..n + m {
             let x = numbers.below(256);
@@ -111,7 +119,12 @@ mod tests {
         }
     }
 
-    fn take_out_rest(list: &mut [u32], n: usize, there: &mut [bool], rest: u32) -> Result<usize, Fail> {
+    fn take_out_rest(
+        list: &mut [u32],
+        n: usize,
+        there: &mut [bool],
+        rest: u32,
+    ) -> Result<usize, Fail> {
         check(n <= list.len())?;
         for v in 0..there.len() {
             if v % 5 == rest as usize {
