@@ -1,8 +1,7 @@
 // Many records put in at once: the batch is sorted where it stands and then merged with the list.
 ghost use mathlib.Core.Path.{_≡_};
-ghost use mathlib.Core.List.{_++_};
-ghost use Prim.Native.Nat.{ℕ, _+_, _-_, _≤_, _<_};
-ghost use lib.ListN.{length, set, take, drop};
+ghost use Prim.Native.Nat.{_+_, _≤_, _<_};
+ghost use lib.ListN.{length, set};
 ghost use Rattle.ordered.specs.Gathered.{moved, turned, larger, Merged, Parting, Joined, Grown, Gathered, Sorted, TakenIn, AllIn};
 use crate::edit::insert;
 use crate::insertion::Insertion;

@@ -1,6 +1,6 @@
 // A struct that holds a lent slice and a count, and keeps an ordered list in it.
 ghost use mathlib.Core.Path.{_≡_};
-ghost use Prim.Native.Nat.{ℕ, _+_, _≤_};
+ghost use Prim.Native.Nat.{_+_, _≤_};
 ghost use denote.Ref.{now};
 ghost use lib.ListN.{length, take};
 ghost use lib.Dec.{eqb};

@@ -5,6 +5,10 @@ ghost use lib.Dec.{eqb};
 
 #[cfg(test)]
 mod tests {
+    use crate::entry::Entry;
+    use crate::entry::EntryOrder;
+    use crate::entry::OfValue;
+    use crate::entry::ValueKey;
     use order::U32Order;
     use ordered::batch::insert_all;
     use ordered::edit::Predicate;
@@ -12,9 +16,7 @@ mod tests {
     use ordered::edit::remove;
     use ordered::edit::remove_all;
     use ordered::insertion::Insertion;
-    use ordered::search::Key;
     use ordered::search::range;
-    use std::cmp::Ordering;
     use std::test::*;
 
     // A linear congruential generator; its high bits are the number.
@@ -167,6 +169,38 @@ mod tests {
         Ok(())
     }
 
+    // Whether the span holds exactly the entries of the value.
+    fn exact(list: &[Entry<u32>], value: u32) -> bool {
+        let span = range(list, &OfValue(value));
+        for (k, x) in list.iter().enumerate() {
+            if (x.value == value) != (span.from <= k && k < span.to) {
+                return false;
+            }
+        }
+        true
+    }
+
+    fn spans_in(list: &mut [Entry<u32>]) -> Result<(), Fail> {
+        let mut numbers = Numbers(13);
+        let mut n = 0usize;
+        for _ in 0..300 {
+            let x = Entry {
+                value: numbers.below(14),
+                file: 1,
+                place: numbers.below(9),
+            };
+            check(n <= list.len())?;
+            if let Insertion::At(_) = insert(list, n, x) {
+                n = n.saturating_add(1);
+            }
+            check(n <= list.len())?;
+            for value in 0..15 {
+                check(exact(&list[0..n], value))?;
+            }
+        }
+        check(n == list.len())
+    }
+
     #[test]
     fn one_by_one() -> Result<(), Fail> {
         one_by_one_in(&mut [0; 48], &mut [false; 128])
@@ -175,5 +209,16 @@ mod tests {
     #[test]
     fn in_batches() -> Result<(), Fail> {
         in_batches_in(&mut [0; 320], &mut [false; 256])
+    }
+
+    #[test]
+    fn spans() -> Result<(), Fail> {
+        spans_in(
+            &mut [Entry {
+                value: 0,
+                file: 0,
+                place: 0,
+            }; 100],
+        )
     }
 }
