@@ -1,0 +1,4 @@
+pub mod Found
+pub mod Edited
+pub mod Answers
+pub mod Gathered
