@@ -11,6 +11,8 @@ use Rattle.tokens.specs.declared.token.Token.{Token}
 use Rattle.piles.specs.declared.pile.Reader.the-variants.{Prose}
 use Rattle.piles.specs.declared.pile.Layer.the-variants.{Case, Drop}
 use Rattle.piles.specs.Piles.{Stream, read-as, piled}
+use Rattle.clike.specs.Worked.{Worked-cases as Clike-cases}
+use Rattle.prints.specs.Worked.{Worked as Print-cases}
 
 abbrev token : ℕ → Class → ℕ → ℕ → Token
 token c k f t = record { code = c; class = k; from = f; to = t }
@@ -21,5 +23,6 @@ PlainText =
     piled (Drop 1 ∷ Case ∷ []) (read-as Prose (codes "A b"))
     ≡ record { tokens = token 97 NameFirst 0 1 ∷ token 98 NameFirst 2 3 ∷ []; ending = None; depth = 2 }
 
+-- all cases together: the text above, two C-like texts, hash values, and chosen places
 abbrev pub Worked : Type 0
-Worked = PlainText
+Worked = PlainText × Clike-cases × Print-cases
