@@ -143,8 +143,8 @@ joined-merged {X} {cmp} xs ys zs a b at r h w e p =
     }
 
 module _ {X : Type 0} {cmp : X → X → Ordering} (o : TotalOrder cmp) (xs : List X) (a b : ℕ) (v : X) (la : 0 < a) (lb : 1 < b) (w : a + b ≤ length xs) where
-  private-long : length (take b (drop a xs)) ≡ b
-  private-long = let d = length-drop a xs in length-take-le b (drop a xs) (omega arith)
+  second-long : length (take b (drop a xs)) ≡ b
+  second-long = let d = length-drop a xs in length-take-le b (drop a xs) (omega arith)
 
   all-of-it : take (a + b - a) (drop a xs) ≡ take b (drop a xs)
   all-of-it = let e : a + b - a ≡ b = omega arith in ap (λ k. take k (drop a xs)) e
@@ -156,7 +156,7 @@ module _ {X : Type 0} {cmp : X → X → Ordering} (o : TotalOrder cmp) (xs : Li
       let A = take a xs in
       let B = take b (drop a xs) in
       let c : Cut (λ y. lies-before false (cmp y v)) B j = subst (λ l. Cut (λ y. lies-before false (cmp y v)) l j) all-of-it f in
-      let long = private-long in
+      let long = second-long in
       let jb : j ≤ b = let q = c .within in omega arith in
       let la′ = length-take-le a xs (omega arith) in
       let at : getD A i v ≡ v = getD-take a xs i v (omega arith) ∙ sym e in
@@ -177,7 +177,7 @@ module _ {X : Type 0} {cmp : X → X → Ordering} (o : TotalOrder cmp) (xs : Li
       let B = take b (drop a xs) in
       let whole : take (a - 0) xs ≡ A = let z : a - 0 ≡ a = omega arith in ap (λ k. take k xs) z in
       let c : Cut (λ y. lies-before false (cmp y v)) A i = subst (λ l. Cut (λ y. lies-before false (cmp y v)) l i) whole f in
-      let long = private-long in
+      let long = second-long in
       let la′ = length-take-le a xs (omega arith) in
       let ia : i ≤ a = let q = c .within in omega arith in
       let at : getD B j v ≡ v = getD-take b (drop a xs) j v (omega arith) ∙ getD-drop a xs j v ∙ sym e in

@@ -6,3 +6,4 @@ pub mod Stages
 pub mod Joining
 pub mod Sorting
 pub mod Keys
+pub mod Counts
