@@ -1,6 +1,6 @@
 // Growing two equal grams to the longest run that holds them.
 ghost use mathlib.Core.Path.{_≡_};
-ghost use Prim.Native.Nat.{_≤_, _<_};
+ghost use Prim.Native.Nat.{_+_, _-_, _^_, _≤_, _<_};
 ghost use lib.ListN.{length};
 ghost use Rattle.std.specs.Options.{Cases};
 ghost use Rattle.runs.specs.Shares.{SameGrams, SameBefore, SameFrom, TheRun};
@@ -49,6 +49,18 @@ pub fn same_from(xs: &[Token], i: usize, ys: &[Token], j: usize) -> usize
     n
 }
 
+// The k tokens at i and j, with so many more before them and after them.
+fn widened(i: usize, j: usize, k: usize, before: usize, after: usize) -> Run
+    requires { ⌜ before ≤ i ⌝ ∗ ⌜ before ≤ j ⌝ ∗ ⌜ before + k + after < 2 ^ 64 ⌝ }
+    ensures { λ r. ⌜ r ≡ record { left = i - before; right = j - before; len = before + k + after } ⌝ }
+{
+    Run {
+        left: i - before,
+        right: j - before,
+        len: before + k + after,
+    }
+}
+
 // The one longest run that holds the equal grams of k tokens at i and at j, both equally far from its starts.
 pub fn grow(xs: &[Token], i: usize, ys: &[Token], j: usize, k: usize) -> Run
     requires { ⌜ 1 ≤ k ⌝ ∗ ⌜ SameGrams k (now xs) (now ys) i j ⌝ }
@@ -56,11 +68,7 @@ pub fn grow(xs: &[Token], i: usize, ys: &[Token], j: usize, k: usize) -> Run
 {
     let before = same_before(xs, i, ys, j);
     let after = same_from(xs, i + k, ys, j + k);
-    Run {
-        left: i - before,
-        right: j - before,
-        len: before + k + after,
-    }
+    widened(i, j, k, before, after)
 }
 
 // The same for any two places: nothing where there are no equal grams of k tokens there, or k is 0.
