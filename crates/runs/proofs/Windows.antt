@@ -63,7 +63,7 @@ module _ {V : Type 0} (S : Scheme V) where
   pub print-from : S .k ≤ S .t → (ts : List Token) (s p : ℕ) → s + S .t ≤ length ts → Rightmost (S .cmp) (row S ts) s (width S) p → Print S ts p
   print-from fits ts s p inside r = let e = length-codes ts in (s, omega arith, r)
 
-  -- the window of any place within a shared run that has t tokens from there on holds a pair
+  -- the first window of a longest run of t or more tokens holds a pair
   pub guaranteed : TotalOrder (S .cmp) → S .k ≤ S .t → (xs ys : List Token) (i j n : ℕ) → Longest xs ys i j n → S .t ≤ n → Passage S xs ys i j n
   guaranteed order fits xs ys i j n run long =
       let p = pick (S .cmp) (row S xs) i (width S - 1) in

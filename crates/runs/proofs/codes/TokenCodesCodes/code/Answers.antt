@@ -1,4 +1,4 @@
-use mathlib.Core.Path.{sym}
+use mathlib.Core.Path.{sym, _∙_}
 use Prim.Native.Nat.{_≤_}
 use native.Mathlib.Omega.{arith}
 use lib.ListN.{length}
@@ -9,7 +9,7 @@ use Rattle.runs.proofs.Windows.{length-codes}
 use Rattle.runs.proofs.codes.TokenCodesCodes.code.Needs as need
 
 pub returns-then-i-self : need.returns-then-i-self
-returns-then-i-self c = sym (getD-map (λ a. a .code) (c .args .self .now .all .now) (c .args .i) unused 0 (omega arith))
+returns-then-i-self c = c .code-at .ensures ∙ sym (getD-map (λ a. a .code) (c .args .self .now .all .now) (c .args .i) unused 0 (omega arith))
 
 pub returns-else-i-self : need.returns-else-i-self
 returns-else-i-self c =
