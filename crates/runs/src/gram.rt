@@ -1,8 +1,18 @@
 // Comparing two grams.
 ghost use mathlib.Core.Path.{_≡_};
+ghost use Prim.Native.Nat.{_<_};
+ghost use lib.ListN.{length};
 ghost use Rattle.std.specs.Orderings.{Decides};
-ghost use Rattle.runs.specs.Shares.{gram-same, SameGrams};
+ghost use Rattle.runs.specs.Shares.{same-at, gram-same, SameGrams};
 use tokens::token::Token;
+
+// Whether the token at i is the same as its partner at j.
+fn same_at(xs: &[Token], i: usize, ys: &[Token], j: usize) -> bool
+    requires { ⌜ i < length (now xs) ⌝ ∗ ⌜ j < length (now ys) ⌝ }
+    ensures { λ r. ⌜ r ≡ same-at (now (xs .entry)) (now (ys .entry)) i j ⌝ }
+{
+    xs[i].same(&ys[j])
+}
 
 // Whether the gram of k tokens at i is there, and the one at j, and each token is the same as its partner.
 // It stops at the first two tokens that differ.
@@ -17,7 +27,7 @@ pub fn same_grams(xs: &[Token], i: usize, ys: &[Token], j: usize, k: usize) -> b
         return false;
     }
     for d in 0..k {
-        if !xs[i + d].same(&ys[j + d]) {
+        if !same_at(xs, i + d, ys, j + d) {
             return false;
         }
     }
