@@ -22,7 +22,7 @@ const NUMBER: u8 = 7;
 
 const MARK: u8 = 8;
 
-pub fn kind(lexeme: &Lexeme) -> u8 {
+fn kind(lexeme: &Lexeme) -> u8 {
     match *lexeme {
         Lexeme::Nothing => NOTHING,
         Lexeme::Blank(_) => BLANK,
