@@ -8,7 +8,7 @@ use Rattle.std.specs.declared.option.Option.the-variants.{Some, None}
 use Rattle.std.specs.declared.result.Result.the-variants.{Ok}
 use Rattle.tokens.specs.declared.token.Token.{Token}
 use Rattle.tokens.specs.declared.token.Fault.{Fault}
-use Rattle.tokens.specs.Tokens.{first, rest}
+use Rattle.tokens.specs.Tokens.{limit, first, rest}
 use Rattle.tokens.specs.Texts.{readable, text-ending}
 use Rattle.tokens.proofs.Texts.{long-none, long-ends, past-none, past-ends, zero-none, zero-ends}
 use Rattle.clike.specs.declared.state.Clike.{Clike}
@@ -37,21 +37,22 @@ returns-then-self-gt-LIMIT c =
     let fault = c .file-fault .ensures in
     record { answer = cc (ap (λ x. first x (ending-left self)) list, ap (first []) end); left = list ∙ sym (ap rest list); ends = refl; stays = refl }
 
+-- past the last byte the answer is the fault of an open comment, if one was begun, and nothing is taken off
+past : (s : Clike) → length (s .file .now) ≤ limit → length (s .file .now) ≤ s .at → (first (clike-left s) (ending-left s) ≡ first [] (s .unclosed)) × (clike-left s ≡ rest (clike-left s))
+past s short h =
+    let none = past-none (s .file .now) (s .at) short h in
+    let list = none-left s none in
+    (ap (λ x. first x (ending-left s)) list ∙ ap (first []) (none-open s None (past-ends (s .file .now) (s .at) short h) none), list ∙ sym (ap rest list))
+
 pub returns-in-None : need.returns-in-None
 returns-in-None c =
-    let self = c .args .self .now in
-    let none = past-none (self .file .now) (self .at) (c .if-self-gt-LIMIT .left) (c .if-self .taken) in
-    let list = none-left self none in
-    let end = none-open self None (past-ends (self .file .now) (self .at) (c .if-self-gt-LIMIT .left) (c .if-self .taken)) none in
-    record { answer = sym (ap (λ x. first x (ending-left self)) list ∙ ap (first []) (end ∙ c .in-None .is)); left = list ∙ sym (ap rest list); ends = refl; stays = refl }
+    let end = past (c .args .self .now) (c .if-self-gt-LIMIT .left) (c .if-self .taken) in
+    record { answer = sym (end .0 ∙ ap (first []) (c .in-None .is)); left = end .1; ends = refl; stays = refl }
 
 pub returns-in-Some : need.returns-in-Some
 returns-in-Some c =
-    let self = c .args .self .now in
-    let none = past-none (self .file .now) (self .at) (c .if-self-gt-LIMIT .left) (c .if-self .taken) in
-    let list = none-left self none in
-    let end = none-open self None (past-ends (self .file .now) (self .at) (c .if-self-gt-LIMIT .left) (c .if-self .taken)) none in
-    record { answer = sym (ap (λ x. first x (ending-left self)) list ∙ ap (first []) (end ∙ c .in-Some .is)); left = list ∙ sym (ap rest list); ends = refl; stays = refl }
+    let end = past (c .args .self .now) (c .if-self-gt-LIMIT .left) (c .if-self .taken) in
+    record { answer = sym (end .0 ∙ ap (first []) (c .in-Some .is)); left = end .1; ends = refl; stays = refl }
 
 pub returns-then-b-eq0 : need.returns-then-b-eq0
 returns-then-b-eq0 c =
