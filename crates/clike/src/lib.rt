@@ -1,4 +1,5 @@
 // C-like files: cutting them into lexemes, and the source of their tokens.
+#![tactic(auto)]
 pub mod cutting;
 pub mod keyword;
 pub mod laws;

@@ -1,4 +1,5 @@
 // Tests of the crate `clike`.
+#![tactic(auto)]
 #[cfg(test)]
 mod cuts;
 #[cfg(test)]

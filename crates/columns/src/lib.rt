@@ -1,4 +1,6 @@
 // Numbers in columns: decimal, right-justified with blanks.
+#![tactic(auto)]
+
 ghost use Rattle.std.specs.Prelude.{◌≡◌, ◌+◌, ◌≤◌, true, ◌++◌, length, take, is_ok, if◌then◌else◌, vec_len, vec_capacity, decimal};
 ghost use Rattle.columns.specs.Columns.{right, row};
 

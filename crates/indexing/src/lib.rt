@@ -1,4 +1,5 @@
 // Laws of the index of fingerprints: it holds what is defined for the held files, and a report can be read off it.
+#![tactic(auto)]
 ghost use Rattle.indexing.specs.Laws.{IndexLists, PairsByIndex};
 
 use prints::hash::GramHash;

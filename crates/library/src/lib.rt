@@ -1,4 +1,5 @@
 // A library of files: it holds them as tokens with an index of their fingerprints, and reports the passages that they share.
+#![tactic(auto)]
 mod adding;
 pub mod calls;
 mod filed;

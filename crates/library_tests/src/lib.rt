@@ -1,4 +1,5 @@
 // Tests of the library.
+#![tactic(auto)]
 #[cfg(test)]
 mod common;
 #[cfg(test)]

@@ -1,6 +1,7 @@
 // Lists the tokens that a pile of layers leaves of a file:
 //     listing FILE READER LAYER..
 // as `listing report.txt prose drop=1 case names`.
+#![tactic(auto)]
 use piles::lines::listed;
 use piles::pile::Layer;
 use piles::words::{Unread, layer_of, reader_of};

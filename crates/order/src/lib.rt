@@ -1,6 +1,8 @@
 // What has a total order, and lists that rise by it.
 //
 // `Order` is much smaller than std's `Ord`: one function, one ghost member, one law. Generic code over it is proved once, from the law.
+#![tactic(auto)]
+
 ghost use Rattle.std.specs.Prelude.{◌≡◌};
 ghost use Rattle.std.specs.declared.cmp.Ordering.{Ordering};
 ghost use Rattle.order.specs.Total.{TotalOrder, by_both};

@@ -1,4 +1,5 @@
 // Shows the passages that the files left.txt and right.txt of the working directory share.
+#![tactic(auto)]
 use pages::whole::page;
 use std::fs;
 use std::io::Write;

@@ -1,6 +1,7 @@
 // Fingerprints: hashes of grams of codes, and the choice of places by winnowing.
 //
 // Hashes see codes only, and the choice sees ordered values only.
+#![tactic(auto)]
 ghost use Rattle.order.specs.Total.{TotalOrder};
 ghost use Rattle.prints.specs.Choice.{Agrees, NoWindow};
 ghost use Rattle.prints.specs.Worked.{Worked};

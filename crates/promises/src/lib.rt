@@ -1,4 +1,5 @@
 // What a passage checker promises: theorems about every list of calls, above the definition of what each call answers.
+#![tactic(auto)]
 ghost use Rattle.promises.specs.Promises.{Promises, AllPairsCounted};
 
 use prints::hash::GramHash;

@@ -1,6 +1,7 @@
 // Longest runs: what two token lists share, and the guarantee that no long run goes without a pair of fingerprints.
 //
 // Tokens are seen only through `same` and their codes, and of `same` only one fact is used: same tokens have equal codes.
+#![tactic(auto)]
 ghost use Rattle.runs.specs.Passages.{Guarantee, PrintsListed};
 
 use prints::hash::GramHash;

@@ -1,10 +1,8 @@
 -- The tokens of prose: the one at each place, and that they are well placed.
-use Rattle.std.proofs.Common.{◌≡◌, ℕ, zero, suc, ◌+◌, ◌<◌, ◌≤◌, Bool, true, false, cond, List, [], ◌∷◌, map, get_or, sym, refl, ap, ◌∙◌, subst, ⊎_elim, arith}
+use Rattle.std.proofs.Common.{◌≡◌, ℕ, zero, suc, ◌+◌, ◌<◌, ◌≤◌, List, [], ◌∷◌, map, get_or, sym, ap, subst, ⊎_elim, arith}
 use Rattle.std.specs.List.{range_with_len}
 use Rattle.std.proofs.lemmas.Bool.{cond_both, cases_eq}
 use Rattle.tokens.specs.declared.token.Class.{Class}
-use Rattle.tokens.specs.declared.token.Class.TheVariants.{Blank, NameFirst, NameFurther, NumberFirst, NumberFurther, Mark}
-use Rattle.tokens.specs.declared.token.Token.{Token}
 use Rattle.tokens.specs.Bytes.{is_blank, is_letter, is_digit}
 use Rattle.tokens.specs.Texts.{readable}
 use Rattle.tokens.specs.Tokens.{class_number, limit, PlacedFrom}

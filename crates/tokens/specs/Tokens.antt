@@ -1,5 +1,5 @@
 -- What tokens are, when two are the same, and what the list of a source looks like.
-use Rattle.std.specs.Prelude.{◌≡◌, ℕ, ◌<◌, ◌≤◌, Bool, true, ◌&&◌, List, [], ◌∷◌, Some, None, Ok, Err, Option, Result, ◌==◌, nat_le, nat_lt}
+use Rattle.std.specs.Prelude.{ℕ, ◌<◌, ◌≤◌, Bool, true, ◌&&◌, List, [], ◌∷◌, Some, None, Ok, Err, Option, Result, ◌==◌, nat_le, nat_lt}
 use Rattle.tokens.specs.declared.token.Class.{Class}
 use Rattle.tokens.specs.declared.token.Class.TheVariants.{Unused, Blank, NameFirst, NameFurther, Keyword, NumberFirst, NumberFurther, Mark, Quoted, Comment, Made}
 use Rattle.tokens.specs.declared.token.Cause.{Cause}

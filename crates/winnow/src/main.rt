@@ -1,4 +1,5 @@
 // Shows hash values of short grams, and the fingerprints of a short text.
+#![tactic(auto)]
 use prints::cyclic::CyclicShift;
 use prints::hash::GramHash;
 use prints::list::{Unfit, fingerprints};

@@ -1,4 +1,5 @@
 // The finite check of the definitions, and tests of the edges.
+#![tactic(auto)]
 ghost use Rattle.worked.specs.Worked.{Worked};
 
 #[cfg(test)]

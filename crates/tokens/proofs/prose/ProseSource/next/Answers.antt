@@ -1,4 +1,4 @@
-use Rattle.std.proofs.Common.{◌≡◌, ◌+◌, [], ◌∷◌, sym, refl, ap, ◌∙◌, arith}
+use Rattle.std.proofs.Common.{◌≡◌, ◌+◌, [], ◌∷◌, sym, refl, ap, ◌∙◌}
 use Rattle.tokens.specs.Tokens.{first, rest}
 use Rattle.tokens.specs.Texts.{text_ending}
 use Rattle.tokens.specs.Proses.{prose_token, prose_from}
@@ -19,7 +19,7 @@ returns-then-b-eq0 c =
     let i = c.args.self.now.at in
     let none = prose_none file i (zero_none file i c.if-self-gt-LIMIT.false c.if-i-self.false c.if-b-eq0.true) in
     let ends = zero_ends file i c.if-self-gt-LIMIT.false c.if-i-self.false c.if-b-eq0.true in
-    let fault = c.file-fault-then-b-eq0.ensures in
+    let fault = c.file_fault-then-b-eq0.ensures in
     record { answer = cc (ap (λ x. first x (text_ending file i)) none, ap (first []) ends); left = none ∙ sym (ap rest none); ends = refl; stays = refl }
 
 pub returns : goal.returns
@@ -28,7 +28,7 @@ returns c =
     let i = c.args.self.now.at in
     let list : prose_from file i ≡ prose_token file i ∷ prose_from file (i + 1) = prose_more file i (reads_more file i c.if-self-gt-LIMIT.false c.if-i-self.false c.if-b-eq0.false) in
     let code = c.from.ensures in
-    let class = c.class-at.ensures in
+    let class = c.class_at.ensures in
     record {
       answer = cc (ap (λ x. first x (text_ending file i)) list);
       left = sym (ap rest list);
