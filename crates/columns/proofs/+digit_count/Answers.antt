@@ -12,4 +12,4 @@ returns-else-n-lt10 t c =
     let fits : n < 2 ^ 64 = omega arith in
     let one = length_step n c.if-n-lt10.false fits in
     let few = length-decimal-le 20 n (omega arith) (omega arith) fits in
-    record { count = omega (arith, one, c.digit-count.ensures.count); bound = omega (arith, one, few, c.digit-count.ensures.count) }
+    record { count = omega (arith, one, c.digit_count.ensures.count); bound = omega (arith, one, few, c.digit_count.ensures.count) }

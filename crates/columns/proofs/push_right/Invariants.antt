@@ -1,4 +1,4 @@
-use Rattle.std.proofs.Common.{◌≡◌, ◌+◌, ◌-◌, ◌≤◌, max, ◌++◌, length, replicate, vec_items, vec_len, vec_capacity}
+use Rattle.std.proofs.Common.{◌≡◌, ◌+◌, ◌-◌, ◌≤◌, max, ◌++◌, replicate, vec_items, vec_len, vec_capacity}
 use Rattle.columns.proofs.push_right.Given as goal
 
 abbrev pub invariant-loop : goal.invariant-loop

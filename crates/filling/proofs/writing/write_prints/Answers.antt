@@ -6,8 +6,8 @@ use Rattle.runs.specs.Passages.{codes}
 use Rattle.filling.proofs.Outflow.{handed_in, entry_left, print_more, prints_counted, prints_written}
 use Rattle.filling.proofs.writing.write_prints.Goals as goal
 
-pub overflow-cast-free : goal.overflow-cast-free
-overflow-cast-free g c =
+pub overflow_cast-free : goal.overflow_cast-free
+overflow_cast-free g c =
     let low = c.requires.gram.0 in
     let some = c.requires.window.0 in
     let size = c.requires.size in
@@ -30,6 +30,6 @@ loop-found-preserved g c = (c.in-Some.ensures.walking, print_more c.loop-found.i
 pub returns : goal.returns
 returns g c =
     record {
-      count = prints_counted c.loop-found.invariant.1 c.in-default.ensures;
-      after = prints_written c.loop-found.invariant.1 c.in-default.ensures;
+      count = prints_counted c.loop-found.invariant.1 c.in_default.ensures;
+      after = prints_written c.loop-found.invariant.1 c.in_default.ensures;
     }

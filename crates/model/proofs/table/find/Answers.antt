@@ -4,8 +4,8 @@ use Rattle.model.specs.Tables.{no_entry}
 use Rattle.model.proofs.Tabled.{extent_more, extent_take}
 use Rattle.model.proofs.table.find.Goals as goal
 
-pub overflow-add-start : goal.overflow-add-start
-overflow-add-start c =
+pub overflow_add-start : goal.overflow_add-start
+overflow_add-start c =
     let all = c.args.table.now in
     let m = extent_more all c.loop-slot.slot (omega arith) in
     let l = extent_take all (c.loop-slot.slot + 1) in

@@ -13,7 +13,7 @@ loop-i-preserved c =
     let i = c.loop-i.i in
     let x = get_or list i no_passage in
     let start = vec_items c.args.out.now in
-    let more : vec_items c.push-passage.new.out ≡ (start ++ flat_map passage_line (take i list)) ++ passage_line x = pushed (passage_line x) c.loop-i.invariant c.in-ok-push-passage.was c.push-passage.ensures in
+    let more : vec_items c.push_passage.new.out ≡ (start ++ flat_map passage_line (take i list)) ++ passage_line x = pushed (passage_line x) c.loop-i.invariant c.in_ok-push_passage.was c.push_passage.ensures in
     more ∙ flat_map_more passage_line start (take i list) x ∙ ap (λ (xs : List Passage). start ++ flat_map passage_line xs) (sym (take_more list i no_passage (omega arith)))
 
 pub returns : goal.returns

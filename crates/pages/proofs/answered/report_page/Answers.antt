@@ -10,6 +10,6 @@ pub returns : goal.returns
 returns c =
     let list = c.args.list.now in
     let n = c.args.counts.passages in
-    let first : vec_items c.push-row.new.out ≡ counts_line c.args.counts = pushed (counts_line c.args.counts) c.new-out.ensures.items c.in-ok-push-row.was c.push-row.ensures in
-    let then : vec_items c.push-passages.new.out ≡ vec_items c.push-row.new.out ++ joined passage_line (take (c.min-end.result - 0) list) = c.in-ok-push-passages.ensures refl in
+    let first : vec_items c.push_row.new.out ≡ counts_line c.args.counts = pushed (counts_line c.args.counts) c.new-out.ensures.items c.in_ok-push_row.was c.push_row.ensures in
+    let then : vec_items c.push_passages.new.out ≡ vec_items c.push_row.new.out ++ joined passage_line (take (c.min-end.result - 0) list) = c.in_ok-push_passages.ensures refl in
     then ∙ ap₂ ◌++◌ first (ap (joined passage_line) (take_capped n (c.min-end.result - 0) list (let m = c.min-end.ensures in omega arith)))

@@ -1,7 +1,7 @@
 use Rattle.std.proofs.lemmas.Result.{err_from_is_err_and}
 use Rattle.pages.proofs.comparing.comparison.Goals as goal
 
-pub returns-in-err-calls : goal.returns-in-err-calls
-returns-in-err-calls c =
-    let p = err_from_is_err_and c.from-residual-in-err-calls.result c.from-residual-in-err-calls.ensures.1 in
+pub returns-in_err-calls : goal.returns-in_err-calls
+returns-in_err-calls c =
+    let p = err_from_is_err_and c.from_residual-in_err-calls.result c.from_residual-in_err-calls.ensures.1 in
     rw p.1 tt

@@ -15,26 +15,26 @@ meet-requires g c =
     let here : In a own = subst (λ (x : Fingerprint g.row.V.Denot). In x own) (sym c.index-own-i.is) (in_at own c.loop-i.i a (omega arith)) in
     (c.requires.0, (c.requires.1.0 a here, ready_after c.args.scope.k (files c.args.scope) c.loop-i.invariant))
 
-pub returns-in-err-counts : goal.returns-in-err-counts
-returns-in-err-counts g c =
-    rw c.from-residual.ensures
-    (full_before c.args.scope.k (files c.args.scope) c.args.before.now c.args.own.now c.args.after.now c.index-own-i.result c.loop-i.i (omega arith) c.index-own-i.is c.loop-i.invariant c.in-err-counts.ensures)
+pub returns-in_err-counts : goal.returns-in_err-counts
+returns-in_err-counts g c =
+    rw c.from_residual.ensures
+    (full_before c.args.scope.k (files c.args.scope) c.args.before.now c.args.own.now c.args.after.now c.index-own-i.result c.loop-i.i (omega arith) c.index-own-i.is c.loop-i.invariant c.in_err-counts.ensures)
 
 pub meet-requires-in-loop-i : goal.meet-requires-in-loop-i
 meet-requires-in-loop-i g c =
     let a = c.index-own-i.result in
     let own = c.args.own.now in
     let here : In a own = subst (λ (x : Fingerprint g.row.V.Denot). In x own) (sym c.index-own-i.is) (in_at own c.loop-i.i a (omega arith)) in
-    (c.requires.0, (c.requires.1.0 a here, ready_after c.args.scope.k (files c.args.scope) c.in-ok-counts.ensures))
+    (c.requires.0, (c.requires.1.0 a here, ready_after c.args.scope.k (files c.args.scope) c.in_ok-counts.ensures))
 
-pub returns-in-err-counts-2 : goal.returns-in-err-counts-2
-returns-in-err-counts-2 g c =
-    rw c.from-residual-in-err-counts-2.ensures
-    (full_after c.args.scope.k (files c.args.scope) c.args.before.now c.args.own.now c.args.after.now c.index-own-i.result c.loop-i.i (omega arith) c.index-own-i.is c.loop-i.invariant c.in-ok-counts.ensures c.in-err-counts-2.ensures)
+pub returns-in_err-counts-2 : goal.returns-in_err-counts-2
+returns-in_err-counts-2 g c =
+    rw c.from_residual-in_err-counts-2.ensures
+    (full_after c.args.scope.k (files c.args.scope) c.args.before.now c.args.own.now c.args.after.now c.index-own-i.result c.loop-i.i (omega arith) c.index-own-i.is c.loop-i.invariant c.in_ok-counts.ensures c.in_err-counts-2.ensures)
 
 pub loop-i-preserved : goal.loop-i-preserved
 loop-i-preserved g c =
-    own_more c.args.scope.k (files c.args.scope) c.args.before.now c.args.own.now c.args.after.now c.index-own-i.result c.loop-i.i (omega arith) c.index-own-i.is c.loop-i.invariant c.in-ok-counts.ensures c.in-ok-counts-2.ensures
+    own_more c.args.scope.k (files c.args.scope) c.args.before.now c.args.own.now c.args.after.now c.index-own-i.result c.loop-i.i (omega arith) c.index-own-i.is c.loop-i.invariant c.in_ok-counts.ensures c.in_ok-counts-2.ensures
 
 pub returns : goal.returns
 returns g c =

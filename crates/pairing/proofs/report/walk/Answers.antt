@@ -3,16 +3,16 @@ use Rattle.pairing.specs.Scopes.{files}
 use Rattle.pairing.proofs.Walked.{walked_all, walked_more, walked_full}
 use Rattle.pairing.proofs.report.walk.Goals as goal
 
-pub returns-in-err-counts : goal.returns-in-err-counts
-returns-in-err-counts g c r =
+pub returns-in_err-counts : goal.returns-in_err-counts
+returns-in_err-counts g c r =
     let s = c.args.scope in
-    rw c.from-residual.ensures
-    (walked_full g.met.V.Order.total s.number s.k (files s) c.args.index.now c.loop-at.at c.loop-at.invariant.1 c.first-group.result c.first-group.ensures.count c.in-err-counts.ensures r)
+    rw c.from_residual.ensures
+    (walked_full g.met.V.Order.total s.number s.k (files s) c.args.index.now c.loop-at.at c.loop-at.invariant.1 c.first_group.result c.first_group.ensures.count c.in_err-counts.ensures r)
 
 pub loop-at-preserved : goal.loop-at-preserved
 loop-at-preserved g c =
     let s = c.args.scope in
-    (omega arith, walked_more g.met.V.Order.total s.number s.k (files s) c.args.index.now c.loop-at.at c.loop-at.invariant.1 c.first-group.result c.first-group.ensures.count c.in-ok-counts.ensures)
+    (omega arith, walked_more g.met.V.Order.total s.number s.k (files s) c.args.index.now c.loop-at.at c.loop-at.invariant.1 c.first_group.result c.first_group.ensures.count c.in_ok-counts.ensures)
 
 pub returns : goal.returns
 returns g c r =

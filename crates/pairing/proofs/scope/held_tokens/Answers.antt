@@ -2,18 +2,18 @@ use Rattle.std.proofs.Common.{◌≡◌, ℕ, ◌+◌, ◌-◌, take, drop, sym,
 use Rattle.model.proofs.Tabled.{known_absent, known_at, tokens_at, spot_within}
 use Rattle.pairing.proofs.scope.held_tokens.Goals as goal
 
-pub overflow-add-end : goal.overflow-add-end
-overflow-add-end c =
+pub overflow_add-end : goal.overflow_add-end
+overflow_add-end c =
     let h = spot_within _ c.args.table.now c.in-Some.spot c.in-Some.ensures in
     omega (arith, h, c.requires.0, c.requires.1)
 
-pub offset-bounds-tokens-start : goal.offset-bounds-tokens-start
-offset-bounds-tokens-start c =
+pub offset_bounds-tokens-start : goal.offset_bounds-tokens-start
+offset_bounds-tokens-start c =
     let h = spot_within _ c.args.table.now c.in-Some.spot c.in-Some.ensures in
     omega (arith, h, c.requires.0, c.requires.1)
 
-pub slice-bounds-result-end : goal.slice-bounds-result-end
-slice-bounds-result-end c =
+pub slice_bounds-result-end : goal.slice_bounds-result-end
+slice_bounds-result-end c =
     let h = spot_within _ c.args.table.now c.in-Some.spot c.in-Some.ensures in
     omega (arith, h, c.requires.0, c.requires.1)
 

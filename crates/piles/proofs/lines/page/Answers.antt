@@ -16,5 +16,5 @@ loop-token-preserved g c =
     let h = c.in-Ok-Some.ensures.answer in
     let came : Ok (Some t) ≡ first old (g.S.Source.ending c.loop-token.source) = cc in
     let split : old ≡ t ∷ new = first_some old _ t came ∙ ap (λ xs. t ∷ xs) (sym c.next.ensures.left) in
-    let more : vec_items c.push-token.new.out ≡ out ++ token_line t = pushed (token_line t) refl c.in-ok-push-token.was c.push-token.ensures in
+    let more : vec_items c.push_token.new.out ≡ out ++ token_line t = pushed (token_line t) refl c.in_ok-push_token.was c.push_token.ensures in
     (ap (λ xs. xs ++ flat_map token_line new) more ∙ append_assoc out (token_line t) (flat_map token_line new) ∙ ap (λ xs. out ++ flat_map token_line xs) (sym split) ∙ c.loop-token.invariant.0, c.next.ensures.ends ∙ c.loop-token.invariant.1)

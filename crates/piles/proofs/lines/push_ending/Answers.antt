@@ -14,6 +14,6 @@ returns c ok =
     let written : List ℕ = c.from.result ∷ c.from-2.result ∷ c.from-3.result ∷ [] in
     let meant : List ℕ = cause_number fault.cause ∷ fault.place ∷ fault.depth ∷ [] in
     let same : written ≡ meant = cc (c.from.ensures, c.number.ensures, c.from-2.ensures, c.from-3.ensures) in
-    let word = pushed (codes "fault") (refl {a = start}) c.in-ok-extend-from-slice.was c.extend-from-slice-2.ensures.items in
-    c.push-row.ensures ∙ cond-true _ _ _ ok ∙ ap (λ xs. xs ++ row 8 written) word ∙ append_assoc start (codes "fault") (row 8 written)
+    let word = pushed (codes "fault") (refl {a = start}) c.in_ok-extend_from_slice.was c.extend_from_slice-2.ensures.items in
+    c.push_row.ensures ∙ cond-true _ _ _ ok ∙ ap (λ xs. xs ++ row 8 written) word ∙ append_assoc start (codes "fault") (row 8 written)
     ∙ ap (λ ns. start ++ (codes "fault" ++ row 8 ns)) same ∙ ap (λ e. start ++ ending_line e) (sym c.in-Some.is)

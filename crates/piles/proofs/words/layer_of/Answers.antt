@@ -6,8 +6,8 @@ use Rattle.piles.proofs.Wording.{word_is}
 use Rattle.piles.proofs.words.layer_of.Goals as goal
 use Rattle.std.proofs.lemmas.Bool.Decides.{Decides-eqb}
 
-pub returns-in-default : goal.returns-in-default
-returns-in-default c =
+pub returns-in_default : goal.returns-in_default
+returns-in_default c =
     let front : bytes_eq (take 5 c.args.word.now) (codes "drop=") ≡ false =
-    ap (λ w. bytes_eq (take 5 w) (codes "drop=")) (sym c.as-bytes.ensures.value) ∙ word_is _ _ false (slice_eq-Decides Decides-eqb _ (codes "drop=") false c.in-default.ensures.cases) in
+    ap (λ w. bytes_eq (take 5 w) (codes "drop=")) (sym c.as_bytes.ensures.value) ∙ word_is _ _ false (slice_eq-Decides Decides-eqb _ (codes "drop=") false c.in_default.ensures.cases) in
     sym (cond-false _ _ _ (word_is _ _ _ c.eq.ensures ∙ c.if-eq.false) ∙ cond-false _ _ _ (word_is _ _ _ c.eq-2.ensures ∙ c.if-eq-2.false) ∙ cond-false _ _ _ front)

@@ -9,11 +9,11 @@ pub loop-call-preserved : goal.loop-call-preserved
 loop-call-preserved g c =
     let more : into_iter_items c.loop-call.call-iterator ≡ c.in-Some.call ∷ into_iter_items c.next.new.self = c.in-Some.ensures.steps.0 in
     let less = c.in-Some.ensures.steps.1 in
-    let n = c.push-reserved.ensures.len in
-    let m = c.push-reserved.ensures.capacity in
+    let n = c.push_reserved.ensures.len in
+    let m = c.push_reserved.ensures.capacity in
     let room = c.loop-call.invariant.2 in (
       c.make-answer.ensures.shape,
-      turn_of g.H.GramHash.value g.H.Value.Order.cmp (asked g.S.Source.tokens g.S.Source.ending) c.args.self.now _ c.loop-call.self c.make-answer.new.self _ _ c.in-Some.call _ _ c.make-answer.result more c.push-reserved.ensures.items c.loop-call.invariant.1 c.make-answer.ensures.step,
+      turn_of g.H.GramHash.value g.H.Value.Order.cmp (asked g.S.Source.tokens g.S.Source.ending) c.args.self.now _ c.loop-call.self c.make-answer.new.self _ _ c.in-Some.call _ _ c.make-answer.result more c.push_reserved.ensures.items c.loop-call.invariant.1 c.make-answer.ensures.step,
       omega arith,
     )
 

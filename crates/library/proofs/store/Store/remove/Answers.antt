@@ -17,6 +17,6 @@ returns-in-Some g c =
     let a : At c.args.number (take (s.count - 0) s.table) c.in-Some.spot = c.in-Some.ensures in
     let f : At c.args.number (take s.count s.table) c.in-Some.spot = rw z at a in
     record {
-      shape = shape_less s c.requires c.args.number c.in-Some.spot f _ c.take-out.ensures;
-      step = removed_step _ g.met.H.Value.Order.total s c.requires c.args.number c.in-Some.spot f _ c.take-out.ensures;
+      shape = shape_less s c.requires c.args.number c.in-Some.spot f _ c.take_out.ensures;
+      step = removed_step _ g.met.H.Value.Order.total s c.requires c.args.number c.in-Some.spot f _ c.take_out.ensures;
     }
