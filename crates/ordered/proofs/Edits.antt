@@ -1,13 +1,13 @@
 -- A rising list with one record more, or without one or those that a test names. Assumes nothing.
-use Rattle.std.proofs.Common.{◌≡◌, ℕ, zero, suc, ◌+◌, ◌-◌, ◌<◌, ◌≤◌, Bool, true, false, cond, not, ◌⊎◌, List, [], ◌∷◌, ◌++◌, length, get_or, take, drop, set, Ok, Err, filter, Result, Ordering, Less, Equal, Greater, sym, refl, ap, ◌∙◌, subst, inl, inr, ⊎_elim, add-one, arith, MatchResult}
-use Rattle.std.specs.List.{insert, remove, ContainsAt as Has}
+use Rattle.std.proofs.Common.{◌≡◌, ℕ, suc, ◌+◌, ◌-◌, ◌<◌, ◌≤◌, Bool, true, false, cond, not, ◌⊎◌, List, [], ◌∷◌, ◌++◌, length, get_or, take, drop, set, Ok, Err, filter, Result, Ordering, Less, Greater, sym, refl, ap, ◌∙◌, subst, inl, inr, ⊎_elim, add-one, arith, MatchResult}
+use Rattle.std.specs.List.{insert, remove}
 use Rattle.std.specs.Ordering.{ordering_reverse}
-use Rattle.std.proofs.lemmas.List.{take-append-drop, length-drop, length-take, length-take-le, get_or-take, get_or-drop, get_or_default, drop_more}
+use Rattle.std.proofs.lemmas.List.{take-append-drop, length-drop, length-take, length-take-le, get_or-take, get_or-drop, drop_more}
 use Rattle.std.proofs.lemmas.Bool.{not-true, not_from_false, not_from_true}
 use Rattle.order.specs.Total.{TotalOrder}
 use Rattle.order.specs.Listed.{In, Rising, ListsExactly}
-use Rattle.order.specs.Compared.{by_answer, not_itself}
-use Rattle.order.proofs.Bridges.{in_at, in_has}
+use Rattle.order.specs.Compared.{not_itself}
+use Rattle.order.proofs.Bridges.{in_has}
 use Rattle.order.proofs.Joins.{append_in, in_left, in_right, rising_append}
 use Rattle.order.proofs.Members.{in_kept, kept_passes, kept_in}
 use Rattle.order.proofs.Rises.{rising_kept}

@@ -1,6 +1,6 @@
 -- Lists that stand side by side become one. Assumes nothing.
-use Rattle.std.proofs.Common.{◌≡◌, ℕ, zero, suc, ◌+◌, ◌-◌, ◌/◌, ◌<◌, ◌≤◌, false, ◌⊎◌, List, [], ◌∷◌, ◌++◌, length, get_or, take, drop, Ordering, Less, Equal, Greater, sym, refl, ap, ◌∙◌, subst, ap₂, inl, inr, ⊎_elim, arith}
-use Rattle.std.proofs.lemmas.List.{append_assoc, append-nil, length-drop, length-take, length-take-le, length-append, take_more, take-take, take-append-le, take_at, drop_at, drop-drop, drop-take, drop_more, drop_all, get_or-drop, get_or-take, take-append-drop, take_all}
+use Rattle.std.proofs.Common.{◌≡◌, ℕ, ◌+◌, ◌-◌, ◌/◌, ◌<◌, ◌≤◌, false, ◌⊎◌, List, [], ◌∷◌, ◌++◌, length, get_or, take, drop, Ordering, Less, sym, refl, ap, ◌∙◌, subst, ap₂, inl, inr, ⊎_elim, arith}
+use Rattle.std.proofs.lemmas.List.{append_assoc, append-nil, length-drop, length-take-le, length-append, take_more, take-take, take-append-le, take_at, drop_at, drop-drop, drop-take, drop_more, drop_all, get_or-drop, get_or-take, take-append-drop}
 use Rattle.order.specs.Total.{TotalOrder}
 use Rattle.order.specs.Listed.{In, Rising, ListsExactly}
 use Rattle.order.specs.Compared.{by_answer}
@@ -9,7 +9,7 @@ use Rattle.order.proofs.Bridges.{in_at}
 use Rattle.ordered.specs.Found.{lies_before, Cut}
 use Rattle.ordered.specs.Edited.{PutIn, Already}
 use Rattle.ordered.specs.Gathered.{moved, turned, InEither, Merged, Parting, Joined, Grown}
-use Rattle.ordered.proofs.Edits.{rising_split, greater_less, below_cut, not_below_cut, in_parts}
+use Rattle.ordered.proofs.Edits.{rising_split, greater_less, below_cut, not_below_cut}
 use Rattle.ordered.proofs.Moves.{moved_front, moved_past}
 
 -- the fact may be said in another way

@@ -1,5 +1,5 @@
 -- A leading part of an order is a key. Assumes nothing.
-use Rattle.std.proofs.Common.{◌≡◌, ◌⊎◌, Ordering, Less, Equal, Greater, sym, refl, ap, ◌∙◌, subst, inl, inr, ⊎_elim}
+use Rattle.std.proofs.Common.{◌≡◌, ◌⊎◌, Ordering, Less, Equal, Greater, sym, refl, ap, ◌∙◌, inl, inr, ⊎_elim}
 use Rattle.std.specs.Ordering.{ordering_then}
 use Rattle.order.specs.Total.{TotalOrder}
 use Rattle.order.specs.Compared.{less≢greater}

@@ -1,9 +1,9 @@
 -- What moves of a part of a list leave. Assumes nothing.
-use Rattle.std.proofs.Common.{◌≡◌, ℕ, zero, suc, ◌+◌, ◌-◌, ◌<◌, ◌≤◌, min, List, [], ◌∷◌, ◌++◌, length, get_or, take, drop, set, sym, refl, ap, ◌∙◌, subst, ap₂, add-one, arith}
+use Rattle.std.proofs.Common.{◌≡◌, ℕ, suc, ◌+◌, ◌-◌, ◌<◌, ◌≤◌, List, ◌∷◌, ◌++◌, length, get_or, take, drop, set, sym, ap, ◌∙◌, ap₂, add-one, arith}
 use lib.Seq.{paste}
 use Rattle.std.specs.List.{insert, remove}
 use Rattle.ordered.specs.Gathered.{moved, turned}
-use Rattle.std.proofs.lemmas.List.{append_assoc, length-take-le, length-drop, length-append, length-take, take_more, set_at, take-take, take_at, drop_at, drop-drop, drop-take, take-append-drop}
+use Rattle.std.proofs.lemmas.List.{append_assoc, length-take-le, length-drop, length-append, take_more, set_at, take-take, take_at, drop_at, drop-drop, drop-take, take-append-drop}
 use Rattle.std.proofs.lemmas.Slice.{between_is}
 use Rattle.std.proofs.lemmas.List.Edits.{length-insert, length-remove}
 

@@ -1,10 +1,9 @@
 -- What a rising list gives at each place, and the records of a key. Assumes nothing.
-use Rattle.std.proofs.Common.{◌≡◌, ℕ, zero, suc, ◌+◌, ◌-◌, ◌<◌, ◌≤◌, Bool, true, false, ◌⊎◌, List, [], ◌∷◌, length, get_or, Ordering, Less, Equal, Greater, sym, refl, ap, ◌∙◌, subst, inl, inr, ⊎_elim, arith}
-use Rattle.std.proofs.lemmas.Bool.{cases_eq, cases_lt, both_ways, true≢false}
-use Rattle.order.specs.Listed.{In, Rising}
-use Rattle.order.specs.Total.{TotalOrder}
+use Rattle.std.proofs.Common.{◌≡◌, ℕ, zero, suc, ◌-◌, ◌<◌, ◌≤◌, true, false, List, [], ◌∷◌, length, get_or, Ordering, Less, Equal, Greater, sym, refl, ap, ◌∙◌, ⊎_elim, arith}
+use Rattle.std.proofs.lemmas.Bool.{cases_eq, cases_lt, true≢false}
+use Rattle.order.specs.Listed.{Rising}
 use Rattle.order.proofs.Bridges.{in_at}
-use Rattle.order.specs.Compared.{by_answer, less≢equal, less≢greater}
+use Rattle.order.specs.Compared.{by_answer, less≢greater}
 use Rattle.ordered.specs.Found.{Steady, lies_before, Cut, Together}
 
 pub rising_at : {X : Type 0} (cmp : X → X → Ordering) (xs : List X) → Rising cmp xs → (i j : ℕ) (d : X) → i < j → j < length xs → cmp (get_or xs i d) (get_or xs j d) ≡ Less

@@ -1,6 +1,6 @@
 -- A batch sorted by halves, and taken into a list. Assumes nothing.
-use Rattle.std.proofs.Common.{◌≡◌, ℕ, zero, suc, ◌+◌, ◌-◌, ◌/◌, ◌<◌, ◌≤◌, ◌⊎◌, List, [], ◌∷◌, ◌++◌, length, get_or, take, drop, set, Ordering, sym, refl, ap, ◌∙◌, subst, ap₂, inl, inr, ⊎_elim, arith}
-use Rattle.std.proofs.lemmas.List.{append_assoc, append-nil, length-drop, length-take-le, length-append, take_more, take_more_set, take-set, drop-set-lt, take-take, take-append-le, take_at, drop_at, drop-drop, drop-take, drop_all, length-set, get_or-drop, take-append-drop}
+use Rattle.std.proofs.Common.{◌≡◌, ℕ, ◌+◌, ◌-◌, ◌<◌, ◌≤◌, ◌⊎◌, List, [], ◌∷◌, ◌++◌, length, get_or, take, drop, set, Ordering, sym, refl, ap, ◌∙◌, subst, ap₂, inl, inr, ⊎_elim, arith}
+use Rattle.std.proofs.lemmas.List.{length-drop, length-take-le, length-append, take_more, take_more_set, take-set, drop-set-lt, take-take, take-append-le, take_at, drop_at, drop-drop, drop-take, get_or-drop}
 use Rattle.order.specs.Listed.{In, Rising, ListsExactly}
 use Rattle.order.proofs.Joins.{append_in, in_left, in_right}
 use Rattle.ordered.specs.Gathered.{moved, Joined, Grown, Gathered, Sorted, TakenIn, AllIn}

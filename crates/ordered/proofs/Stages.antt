@@ -1,8 +1,8 @@
 -- The turns of a merge in one slice: what is left of the two lists at its front and at `at`, what is written from w on, up to `end`. Assumes nothing.
-use Rattle.std.proofs.Common.{◌≡◌, ℕ, zero, suc, ◌+◌, ◌-◌, ◌<◌, ◌≤◌, ◌⊎◌, List, [], ◌∷◌, ◌++◌, length, get_or, take, drop, set, Ordering, Less, Equal, Greater, sym, refl, ap, ◌∙◌, subst, ap₂, inl, inr, ⊎_elim, add-one, arith}
+use Rattle.std.proofs.Common.{◌≡◌, ℕ, suc, ◌+◌, ◌-◌, ◌<◌, ◌≤◌, ◌⊎◌, List, [], ◌∷◌, ◌++◌, length, get_or, take, drop, set, Ordering, Less, Equal, Greater, sym, refl, ap, ◌∙◌, subst, ap₂, ⊎_elim, arith}
 use Rattle.std.proofs.lemmas.List.{append_assoc, append-nil, length-drop, take_more, take-set-le, drop-set-lt, drop-set, get_or-drop, length-set, length-append}
 use Rattle.order.specs.Total.{TotalOrder}
-use Rattle.order.specs.Listed.{In, Rising, ListsExactly}
+use Rattle.order.specs.Listed.{Rising, ListsExactly}
 use Rattle.ordered.specs.Gathered.{moved, InEither, Merged}
 use Rattle.ordered.proofs.Moves.{moved_front, moved_past, moved_length}
 use Rattle.ordered.proofs.Merging.{Merging, merging_less, merging_greater, merging_equal, merging_left_done, merging_swap, merging_none}

@@ -3,6 +3,7 @@
 // A list is a lent slice with a count n: its first n entries rise strictly, the others are free. Every function says what it does for
 // any slice and count within it; what rests on the order is promised where the first n rise.
 #![tactic(auto)]
+
 pub mod batch;
 pub mod edit;
 pub mod insertion;

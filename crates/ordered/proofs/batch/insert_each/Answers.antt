@@ -6,7 +6,7 @@ pub loop-k-init : goal.loop-k-init
 loop-k-init g c = gathering_none g.T.Order.cmp c.args.xs.now
 
 pub loop-k-preserved : goal.loop-k-preserved
-loop-k-preserved g c = gathering_more c.args.xs.now c.loop-k.xs c.insert-next-count.new.xs c.loop-k.k c.loop-k.count c.insert-next-count.result c.index-xs-k.result c.loop-k.invariant (omega arith) c.index-xs-k.is c.loop-k.auto.xs c.insert-next-count.ensures
+loop-k-preserved g c = gathering_more c.args.xs.now c.loop-k.xs c.insert_next-count.new.xs c.loop-k.k c.loop-k.count c.insert_next-count.result c.index-xs-k.result c.loop-k.invariant (omega arith) c.index-xs-k.is c.loop-k.auto.xs c.insert_next-count.ensures
 
 pub returns : goal.returns
 returns g c = gathered c.args.xs.now c.loop-k.xs c.loop-k.k c.args.n c.loop-k.count (omega arith) c.loop-k.invariant

@@ -1,4 +1,4 @@
-use Rattle.std.proofs.Common.{◌+◌, ◌-◌, ◌<◌, sym, inl, inr, arith}
+use Rattle.std.proofs.Common.{sym, inl, inr, arith}
 use Rattle.ordered.proofs.Stages.{halfway_none, halfway_less, halfway_equal, halfway_greater, halfway_as, halfway_all}
 use Rattle.ordered.proofs.batch.merge.Goals as goal
 use Rattle.ordered.proofs.batch.merge.Goals.{then-loop-i-test+else-j-gt0, else-loop-i-test}
@@ -23,5 +23,5 @@ loop-i-preserved g c =
 
 pub returns : goal.returns
 returns g c =
-    halfway_all c.args.xs.now c.loop-i.xs c.copy-part.new.xs c.copy-part-2.new.xs c.args.a c.args.b c.args.at c.loop-i.i c.loop-i.j c.loop-i.w
-    c.loop-i.invariant (elim c.loop-i-test.branch [ then-loop-i-test+else-j-gt0 w ↦ inr (omega arith) | else-loop-i-test w ↦ inl (omega arith) ]) c.copy-part.ensures c.copy-part-2.ensures
+    halfway_all c.args.xs.now c.loop-i.xs c.copy_part.new.xs c.copy_part-2.new.xs c.args.a c.args.b c.args.at c.loop-i.i c.loop-i.j c.loop-i.w
+    c.loop-i.invariant (elim c.loop-i-test.branch [ then-loop-i-test+else-j-gt0 w ↦ inr (omega arith) | else-loop-i-test w ↦ inl (omega arith) ]) c.copy_part.ensures c.copy_part-2.ensures

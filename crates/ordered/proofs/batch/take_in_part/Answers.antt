@@ -7,5 +7,5 @@ returns g c =
     let xs = c.args.list.now in
     let end = c.args.end in
     let whole : end - 0 ≡ end = omega arith in
-    all_in xs (take (end - 0) xs) c.take-in.new.xs c.args.n c.args.m end c.take-in.result c.requires.1 c.requires.0 c.requires.2 (ap (λ k. take k xs) whole) c.take-in.ensures c.take-in.auto.xs
+    all_in xs (take (end - 0) xs) c.take_in.new.xs c.args.n c.args.m end c.take_in.result c.requires.1 c.requires.0 c.requires.2 (ap (λ k. take k xs) whole) c.take_in.ensures c.take_in.auto.xs
     (drop (end - 0) xs) (ap (λ k. drop k xs) whole)

@@ -4,5 +4,5 @@ use Rattle.ordered.proofs.batch.turn.Goals as goal
 
 pub returns : goal.returns
 returns g c =
-    turned_is c.args.xs.now c.rotate-left.new.self c.args.from c.args.first c.args.second (c.args.from + c.args.first + c.args.second - c.args.from) (omega arith)
-    c.rotate-left.ensures.after
+    turned_is c.args.xs.now c.rotate_left.new.self c.args.from c.args.first c.args.second (c.args.from + c.args.first + c.args.second - c.args.from) (omega arith)
+    c.rotate_left.ensures.after

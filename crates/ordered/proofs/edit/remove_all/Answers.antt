@@ -1,4 +1,4 @@
-use Rattle.std.proofs.Common.{sym, arith}
+use Rattle.std.proofs.Common.{arith}
 use Rattle.ordered.proofs.Edits.{thinned, keeping_by}
 use Rattle.ordered.proofs.edit.remove_all.Goals as goal
 
