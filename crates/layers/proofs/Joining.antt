@@ -1,12 +1,11 @@
 -- Names: how far one goes, and that a list with its names joined is well placed.
-use Rattle.std.proofs.Common.{◌≡◌, ℕ, suc, ◌+◌, ◌<◌, ◌≤◌, Bool, true, false, cond, ◌&&◌, eqb, ltb, leb, List, [], ◌∷◌, ◌++◌, length, drop, Some, None, Option, sym, refl, ap, ◌∙◌, subst, one-add, arith}
+use Rattle.std.proofs.Common.{◌≡◌, ℕ, ◌+◌, ◌≤◌, Bool, true, false, cond, ◌&&◌, leb, List, [], ◌∷◌, ◌++◌, drop, Some, None, Option, sym, refl, ap, ◌∙◌, subst, one-add, arith}
 use Rattle.std.specs.List.{prefix_len}
-use Rattle.std.proofs.lemmas.Bool.{cond_both, cond-true, cond-false, and_parts, and_from, and_left, and_right, leb-true, le-leb, ltb-true, ltb-false, lt-ltb, le-ltb, eqb-true, ne_eqb, eq-eqb}
+use Rattle.std.proofs.lemmas.Bool.{cond_both, cond-true, cond-false, and_parts, and_from, and_left, and_right, leb-true, le-leb, le-ltb, eqb-true, ne_eqb}
 use Rattle.tokens.specs.declared.token.Token.{Token}
 use Rattle.tokens.specs.declared.token.Fault.{Fault}
 use Rattle.tokens.specs.Tokens.{limit, class_number, Sound, sound, PlacedFrom}
-use Rattle.layers.specs.Layers.{has_class}
-use Rattle.layers.specs.Names.{starts_name, goes_on, too_many, name_end, whole_name, named_after, named, long_name, named_ending}
+use Rattle.layers.specs.Names.{starts_name, goes_on, too_many, name_end, whole_name, named_after, named, named_ending}
 use Rattle.layers.specs.Naming.{fits_before, ahead, unless_stopped}
 use Rattle.tokens.proofs.Placing.{placed_weaker, sound_from, sound_means}
 

@@ -1,12 +1,12 @@
 -- What the layers make of a well placed list is well placed.
-use Rattle.std.proofs.Common.{◌≡◌, ℕ, ◌+◌, ◌<◌, ◌≤◌, Bool, true, false, cond, not, eqb, leb, ◌⊎◌, List, [], ◌∷◌, sym, refl, ap, ◌∙◌, ⊎_elim, arith}
+use Rattle.std.proofs.Common.{◌≡◌, ℕ, ◌+◌, ◌<◌, ◌≤◌, true, not, leb, ◌⊎◌, List, [], ◌∷◌, refl, ap, ◌∙◌, ⊎_elim, arith}
 use Rattle.std.proofs.lemmas.Bool.{cond_both, cond-true, cond-false, and_parts, leb-true, ne_eqb, eq-eqb}
 use Rattle.tokens.specs.declared.token.Class.{Class}
 use Rattle.tokens.specs.declared.token.Class.TheVariants.{Unused, Blank, NameFirst, NameFurther, Keyword, NumberFirst, NumberFurther, Mark, Quoted, Comment, Made}
 use Rattle.tokens.specs.declared.token.Token.{Token}
 use Rattle.tokens.specs.Bytes.{between}
-use Rattle.tokens.specs.Tokens.{class_number, Sound, PlacedFrom}
-use Rattle.layers.specs.Layers.{small, small_token, lowered, has_class, without}
+use Rattle.tokens.specs.Tokens.{class_number, PlacedFrom}
+use Rattle.layers.specs.Layers.{small, lowered, has_class, without}
 
 between_parts : (low high b : ℕ) → between low high b ≡ true → (low ≤ b) × (b ≤ high)
 between_parts low high b e = let h = and_parts (leb low b) (leb b high) e in (leb-true low b h.0, leb-true b high h.1)

@@ -1,10 +1,10 @@
 -- Lists of which the tokens begin at a place or later.
-use Rattle.std.proofs.Common.{◌≡◌, ℕ, ◌<◌, ◌≤◌, Bool, true, false, cond, leb, List, [], ◌∷◌, sym, refl, ap, ◌∙◌, subst, arith}
+use Rattle.std.proofs.Common.{◌≡◌, ℕ, ◌<◌, ◌≤◌, leb, List, [], ◌∷◌, sym, refl, ap, ◌∙◌, subst, arith}
 use Rattle.std.proofs.lemmas.Bool.{cond_both, cond-true, cond-false, leb-true, le-leb, lt-leb}
 use Rattle.tokens.specs.declared.token.Token.{Token}
 use Rattle.layers.specs.Onwards.{onward}
 use Rattle.tokens.specs.Tokens.{PlacedFrom}
-use Rattle.tokens.proofs.Placing.{placed_kept, placed_tail, placed_weaker}
+use Rattle.tokens.proofs.Placing.{placed_kept}
 
 -- of a list that is placed from p on, all
 pub onward_all : (p a : ℕ) (ts : List Token) → p ≤ a → PlacedFrom a ts → onward p ts ≡ ts

@@ -1,5 +1,5 @@
 -- Names: a token that begins a name and the further ones directly after it become one token.
-use Rattle.std.specs.Prelude.{ℕ, ◌+◌, Bool, true, false, cond, ◌&&◌, List, [], ◌∷◌, Some, None, Option, nat_lt}
+use Rattle.std.specs.Prelude.{ℕ, ◌+◌, Bool, true, false, cond, ◌&&◌, List, [], ◌∷◌, Some, Option, nat_lt}
 use Rattle.std.specs.List.{prefix_len}
 use Rattle.tokens.specs.declared.token.Class.TheVariants.{Made}
 use Rattle.tokens.specs.declared.token.Cause.TheVariants.{LongName}

@@ -1,5 +1,5 @@
 -- A source with the place that it has reached.
-use Rattle.std.specs.Prelude.{ℕ, Bool, List, Some, None, Ok, Err, filter, Option, Result, nat_le}
+use Rattle.std.specs.Prelude.{ℕ, List, Some, None, Ok, Err, filter, Option, Result, nat_le}
 use Rattle.tokens.specs.declared.token.Token.{Token}
 use Rattle.tokens.specs.declared.token.Fault.{Fault}
 

@@ -1,4 +1,4 @@
-use Rattle.std.proofs.Common.{◌≡◌, ◌∷◌, Some, Ok, sym, refl, ap, ◌∙◌, subst, arith}
+use Rattle.std.proofs.Common.{◌≡◌, ◌∷◌, Some, Ok, sym, refl, ap, ◌∙◌, subst}
 use Rattle.layers.specs.Onwards.{onward}
 use Rattle.tokens.specs.Tokens.{Placed, first, rest}
 use Rattle.layers.proofs.Onwards.{onward_taken, onward_skipped}
@@ -11,7 +11,7 @@ returns-then-token-self g c =
     let t = c.in-Some.token in
     let old = g.S.Source.tokens c.loop-token.self.below in
     let new = g.S.Source.tokens c.next.new.self in
-    let h = c.in-ok-token.ensures.answer in
+    let h = c.in_ok-token.ensures.answer in
     let came : Ok (Some t) ≡ first old (g.S.Source.ending c.loop-token.self.below) = cc in
     let split : old ≡ t ∷ new = first_some old _ t came ∙ ap (λ xs. t ∷ xs) (sym c.next.ensures.left) in
     let all = onward_taken c.loop-token.self.reached t old new split c.loop-token.invariant.4 c.if-token-self.true in
@@ -29,7 +29,7 @@ loop-token-preserved g c =
     let t = c.in-Some.token in
     let old = g.S.Source.tokens c.loop-token.self.below in
     let new = g.S.Source.tokens c.next.new.self in
-    let h = c.in-ok-token.ensures.answer in
+    let h = c.in_ok-token.ensures.answer in
     let came : Ok (Some t) ≡ first old (g.S.Source.ending c.loop-token.self.below) = cc in
     let split : old ≡ t ∷ new = first_some old _ t came ∙ ap (λ xs. t ∷ xs) (sym c.next.ensures.left) in (
       c.loop-token.invariant.0,
