@@ -1,12 +1,12 @@
 -- A walk goes on until a window chooses a place that was not handed out. Assumes nothing.
-use Rattle.std.proofs.Common.{◌≡◌, ℕ, zero, suc, ◌+◌, ◌-◌, ◌^◌, ◌<◌, ◌≤◌, leb, ◌⊎◌, List, [], ◌∷◌, map, length, Some, None, filter, Option, Ordering, sym, refl, ap, ◌∙◌, subst, ap₂, inl, inr, ⊎_elim, arith}
+use Rattle.std.proofs.Common.{◌≡◌, ℕ, ◌+◌, ◌-◌, ◌^◌, ◌<◌, ◌≤◌, leb, List, [], ◌∷◌, map, length, Some, None, filter, Option, Ordering, sym, refl, ap, ◌∙◌, subst, ap₂, ⊎_elim, arith}
 use Rattle.std.proofs.lemmas.Bool.{cases_lt}
 use Rattle.order.specs.Total.{TotalOrder}
 use Rattle.prints.specs.declared.window.Placed.{Placed}
 use Rattle.prints.specs.declared.walk.Winnow.{Winnow}
 use Rattle.prints.specs.Grams.{Coded}
 use Rattle.prints.specs.Choice.{Rightmost, chosen, at_place}
-use Rattle.prints.specs.Window.{Best, Holds, Pushed}
+use Rattle.prints.specs.Window.{Holds}
 use Rattle.prints.specs.Walk.{grams, value_at, first, rest, walked, row_of, remaining, Going, Walking, Advanced, Handed}
 use Rattle.prints.proofs.Picks.{rightmost_one}
 use Rattle.prints.proofs.Walks.{next_chosen, none_chosen}

@@ -1,11 +1,11 @@
 -- The rightmost place of a smallest value of a window: there is one, and only one; windows further on have theirs no further left. Assumes nothing.
-use Rattle.std.proofs.Common.{◌≡◌, ℕ, zero, suc, ◌+◌, ◌-◌, ◌<◌, ◌≤◌, Bool, true, false, cond, eqb, ◌⊎◌, List, [], ◌∷◌, Decides, filter, Ordering, Less, Equal, Greater, sym, refl, ap, ◌∙◌, subst, ap₂, inl, inr, ⊎_elim, arith}
+use Rattle.std.proofs.Common.{◌≡◌, ℕ, zero, suc, ◌+◌, ◌-◌, ◌<◌, ◌≤◌, Bool, true, false, cond, eqb, Decides, Ordering, Less, Equal, Greater, sym, refl, ap, ◌∙◌, subst, ap₂, ⊎_elim, arith}
 use Rattle.std.specs.List.{range_with_len}
 use Rattle.std.specs.Ordering.{is_lt, ordering_reverse, nat_cmp}
-use Rattle.std.proofs.lemmas.Bool.{false≢true, cond_both, cases_eq, cases_lt, cases_order}
+use Rattle.std.proofs.lemmas.Bool.{false≢true, cond_both, cases_lt}
 use Rattle.std.proofs.lemmas.Bool.Decides.{Decides-below_or, Decides-eqb}
 use Rattle.order.specs.Total.{TotalOrder}
-use Rattle.order.specs.Listed.{In, Rising, ListsExactly}
+use Rattle.order.specs.Listed.{In, Rising}
 use Rattle.order.specs.Compared.{by_answer, not_itself, tie}
 use Rattle.order.proofs.Members.{in_kept, kept_passes, in_counting}
 use Rattle.order.proofs.Rises.{rising_kept, rising_counting}

@@ -1,5 +1,5 @@
 -- Rotations of 32 bits, and the cyclic shift hash. Assumes nothing.
-use Rattle.std.proofs.Common.{◌≡◌, ℕ, zero, suc, ◌+◌, ◌-◌, ◌*◌, ◌/◌, ◌%◌, ◌^◌, ◌<◌, ◌≤◌, ◌⊎◌, List, [], ◌∷◌, ◌++◌, length, sym, refl, ap, ◌∙◌, subst, ap₂, inl, inr, ⊎_elim, add-zero, mul_assoc, mul_comm, add-mul, pow-suc, add-one, arith, pow_pos, pow-add, shr-shr, shr_lt}
+use Rattle.std.proofs.Common.{◌≡◌, ℕ, suc, ◌+◌, ◌-◌, ◌*◌, ◌/◌, ◌%◌, ◌^◌, ◌<◌, ◌≤◌, List, [], ◌∷◌, ◌++◌, length, sym, refl, ap, ◌∙◌, subst, ap₂, ⊎_elim, add-zero, mul_assoc, add-mul, pow-suc, add-one, arith, pow_pos, pow-add, shr-shr, shr_lt}
 use native.Mathlib.Nat.{mul-mod_left}
 use lib.Bits.{bit_or, bit_xor, or_self, or_shifted, xor_block, xor_mod, xor_shr, xor_lt, xor_zero_r, xor_zero_l, xor_assoc, xor_comm, xor_self}
 use lib.Pow.{mod-pow-add, shl-shr}

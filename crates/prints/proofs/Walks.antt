@@ -1,5 +1,5 @@
 -- Grams that move on, and what a walk has yet to hand out. Assumes nothing.
-use Rattle.std.proofs.Common.{◌≡◌, ℕ, suc, ◌+◌, ◌-◌, ◌<◌, ◌≤◌, leb, ◌⊎◌, List, [], ◌∷◌, ◌++◌, length, get_or, take, drop, set, filter, Ordering, sym, refl, ap, ◌∙◌, subst, ap₂, inl, inr, ⊎_elim, arith}
+use Rattle.std.proofs.Common.{◌≡◌, ℕ, suc, ◌+◌, ◌-◌, ◌<◌, ◌≤◌, leb, List, [], ◌∷◌, ◌++◌, length, get_or, take, drop, set, filter, Ordering, sym, refl, ap, ◌∙◌, subst, ap₂, inl, inr, ⊎_elim, arith}
 use Rattle.std.proofs.ByRecursion.{All-get_or, All-take, All-drop}
 use Rattle.std.proofs.lemmas.List.{ext_get_or, get_or-take, get_or-drop, length-take, length-drop, drop_more, take_more, get_or-set_same, get_or-set_other}
 use Rattle.std.proofs.lemmas.Bool.{cases_eq, cases_lt, le-leb, lt-leb, cond-true, cond-false}
@@ -10,7 +10,7 @@ use Rattle.order.proofs.Rises.{rank_lt}
 use Rattle.prints.specs.Choice.{Rightmost, chosen}
 use Rattle.prints.proofs.Picks.{chosen_rises, in_chosen, chosen_in, rightmost_rises}
 use Rattle.prints.specs.Grams.{Code, Coded, Gram, Rolls}
-use Rattle.prints.specs.Walk.{gram, grams, value_at}
+use Rattle.prints.specs.Walk.{gram, value_at}
 use Rattle.std.specs.Ordering.{nat_cmp}
 
 -- ---- grams

@@ -1,7 +1,6 @@
 -- The polynomial hash: one code more, and a gram that moves on by one. Assumes nothing.
-use Rattle.std.proofs.Common.{◌≡◌, ℕ, suc, ◌+◌, ◌-◌, ◌*◌, ◌/◌, ◌%◌, ◌^◌, ◌<◌, ◌≤◌, cond, eqb, List, [], ◌∷◌, ◌++◌, map, length, sym, refl, ap, ◌∙◌, mul_assoc, mul_comm, pow-suc, mul-add, mul_left_comm, add-one, arith}
-use native.Mathlib.Nat.{mul-sub, div-add-mod, add-mul-mod_self_left}
-use Rattle.std.specs.List.{range_with_len}
+use Rattle.std.proofs.Common.{◌≡◌, ℕ, suc, ◌+◌, ◌-◌, ◌*◌, ◌/◌, ◌%◌, ◌^◌, ◌<◌, ◌≤◌, cond, eqb, List, [], ◌∷◌, ◌++◌, length, sym, ap, ◌∙◌, mul_assoc, pow-suc, mul-add, mul_left_comm, add-one, arith}
+use native.Mathlib.Nat.{div-add-mod, add-mul-mod_self_left}
 use Rattle.std.proofs.lemmas.List.{length_push}
 use Rattle.std.proofs.lemmas.Bool.Decides.{nat_tests}
 use Rattle.prints.specs.Hashes.{prime, weighed, polynomial}

@@ -1,13 +1,13 @@
 -- The window queue: the best of a block's ends, and of windows that lie over two blocks. Assumes nothing.
-use Rattle.std.proofs.Common.{◌≡◌, ℕ, zero, suc, ◌+◌, ◌-◌, ◌<◌, ◌≤◌, Bool, true, false, cond, eqb, ◌⊎◌, List, [], ◌∷◌, length, get_or, set, Some, None, Ordering, sym, refl, ap, ◌∙◌, subst, ap₂, inl, inr, ⊎_elim, arith, MatchOption}
+use Rattle.std.proofs.Common.{◌≡◌, ℕ, ◌+◌, ◌-◌, ◌<◌, ◌≤◌, Bool, true, false, cond, eqb, List, length, get_or, set, Some, None, Ordering, sym, refl, ap, ◌∙◌, subst, ap₂, ⊎_elim, arith}
 use Rattle.std.specs.Ordering.{is_lt}
-use Rattle.std.proofs.lemmas.List.{length-set, get_or-set_same, get_or-set_other, get_or_default}
-use Rattle.std.proofs.lemmas.Bool.{cond-true, cond-false, eq-eqb, ne_eqb, true≢false, cases_eq, cases_lt}
+use Rattle.std.proofs.lemmas.List.{length-set, get_or-set_same, get_or-set_other}
+use Rattle.std.proofs.lemmas.Bool.{cond-true, cond-false, eq-eqb, ne_eqb, true≢false, cases_eq}
 use Rattle.order.specs.Total.{TotalOrder}
 use Rattle.prints.specs.declared.window.Placed.{Placed}
 use Rattle.prints.specs.declared.window.WindowQueue.{WindowQueue}
 use Rattle.prints.specs.Choice.{Rightmost}
-use Rattle.prints.specs.Window.{placed, better_of, Best, Whole, Settled, Ready, Block, Holds, Pushed}
+use Rattle.prints.specs.Window.{placed, better_of, Best, Whole, Settled, Ready, Block, Pushed}
 use Rattle.prints.proofs.Picks.{rightmost_single, rightmost_join}
 
 -- the slots from j on are settled, and `best` is what stands at j; those before are as they were

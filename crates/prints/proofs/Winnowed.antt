@@ -1,5 +1,5 @@
 -- What a file's fingerprints are, and what a walk hands out, for those who call it. Assumes nothing.
-use Rattle.std.proofs.Common.{◌≡◌, ℕ, ◌+◌, ◌-◌, ◌^◌, ◌<◌, ◌≤◌, leb, List, [], ◌∷◌, ◌++◌, map, length, Some, None, filter, Ordering, sym, refl, ap, ◌∙◌, subst, inl, arith}
+use Rattle.std.proofs.Common.{◌≡◌, ℕ, ◌+◌, ◌^◌, ◌<◌, ◌≤◌, leb, List, [], ◌∷◌, ◌++◌, map, length, Some, None, filter, Ordering, sym, refl, ap, ◌∙◌, subst, inl, arith}
 use Rattle.std.specs.List.{range_with_len}
 use Rattle.std.proofs.lemmas.List.FromFn.{length-range_with_len}
 use Rattle.std.proofs.lemmas.List.{append_assoc, length-map}
@@ -8,7 +8,7 @@ use Rattle.order.specs.Listed.{In, ListsExactly}
 use Rattle.order.proofs.Members.{kept_few, in_map, map_in}
 use Rattle.prints.specs.declared.window.Placed.{Placed}
 use Rattle.prints.specs.declared.walk.Winnow.{Winnow}
-use Rattle.prints.specs.Choice.{Chosen, NoWindow, is_picked, chosen, at_place, fingerprints}
+use Rattle.prints.specs.Choice.{Chosen, NoWindow, is_picked, chosen, at_place}
 use Rattle.prints.specs.Walk.{grams, value_at, winnowed, first, rest, walked, row_of, remaining, Walking, Handed}
 use Rattle.prints.proofs.Picks.{agrees, chosen_in, in_chosen}
 use Rattle.std.specs.Ordering.{nat_cmp}

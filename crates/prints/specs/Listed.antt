@@ -1,5 +1,5 @@
 -- All chosen places of a list of codes at once. Assumes nothing.
-use Rattle.std.specs.Prelude.{◌≡◌, ℕ, ◌<◌, ◌≤◌, ◌⊎◌, List, map}
+use Rattle.std.specs.Prelude.{◌≡◌, ℕ, ◌<◌, ◌≤◌, List, map}
 use Rattle.std.specs.declared.cmp.Ordering.{Ordering}
 use Rattle.order.specs.Listed.{ListsExactly}
 use Rattle.prints.specs.declared.list.Unfit.{Unfit}

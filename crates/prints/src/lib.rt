@@ -2,6 +2,7 @@
 //
 // Hashes see codes only, and the choice sees ordered values only.
 #![tactic(auto)]
+
 ghost use Rattle.order.specs.Total.{TotalOrder};
 ghost use Rattle.prints.specs.Choice.{Agrees, NoWindow};
 ghost use Rattle.prints.specs.Worked.{Worked};

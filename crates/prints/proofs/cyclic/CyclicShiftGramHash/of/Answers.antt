@@ -17,8 +17,8 @@ loop-c-preserved c coded =
     let in' : i < length cs = c.loop-c-test.true in
     let code = All-get_or Code cs i 0 in' coded in
     let top = code.1 in
-    let here : c.spread-of.result ≡ spread (get_or cs i 0) = c.spread-of.ensures (omega arith) in
-    let held : c.rotated-by.result ≡ rotated 1 (cyclic (take i cs)) = c.rotated-by.ensures ∙ ap (rotated 1) (c.loop-c.invariant coded) in
+    let here : c.spread_of.result ≡ spread (get_or cs i 0) = c.spread_of.ensures (omega arith) in
+    let held : c.rotated_by.result ≡ rotated 1 (cyclic (take i cs)) = c.rotated_by.ensures ∙ ap (rotated 1) (c.loop-c.invariant coded) in
     ap₂ bit_xor held here ∙ sym (cyclic_push (take i cs) (get_or cs i 0)) ∙ sym (ap cyclic (take_more cs i 0 in'))
 
 pub returns : goal.returns

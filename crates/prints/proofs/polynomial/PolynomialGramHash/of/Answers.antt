@@ -1,6 +1,6 @@
-use Rattle.std.proofs.Common.{◌≡◌, ◌+◌, ◌*◌, ◌%◌, ◌<◌, [], ◌∷◌, ◌++◌, length, get_or, take, sym, refl, ap, ◌∙◌, arith}
+use Rattle.std.proofs.Common.{◌<◌, length, get_or, take, sym, ap, ◌∙◌, arith}
 use Rattle.std.proofs.lemmas.List.{take_more, take_all}
-use Rattle.prints.specs.Hashes.{prime, polynomial}
+use Rattle.prints.specs.Hashes.{polynomial}
 use Rattle.prints.proofs.Weights.{polynomial_push}
 use Rattle.prints.proofs.polynomial.PolynomialGramHash.of.Goals as goal
 

@@ -1,4 +1,4 @@
-use Rattle.std.proofs.Common.{◌≡◌, ◌+◌, ◌-◌, ◌<◌, ◌≤◌, sym, refl, ap, ◌∙◌, arith}
+use Rattle.std.proofs.Common.{refl, arith}
 use Rattle.prints.specs.Walk.{row_of}
 use Rattle.prints.proofs.Walks.{rolls_on}
 use Rattle.prints.proofs.walk.Winnow.advance.Goals as goal

@@ -1,9 +1,9 @@
-use Rattle.std.proofs.Common.{◌≡◌, length, sym, refl, ap, ◌∙◌, arith}
+use Rattle.std.proofs.Common.{length, ap, arith}
 use Rattle.prints.proofs.Winnowed.{handed_fewer, handed_none, handed_end, remaining_few}
 use Rattle.prints.proofs.walk.Winnow.count.Goals as goal
 
-pub overflow-add-n : goal.overflow-add-n
-overflow-add-n g c =
+pub overflow_add-n : goal.overflow_add-n
+overflow_add-n g c =
     let few = remaining_few c.args.self.now c.requires in
     let one = handed_fewer c.loop-n.self c.next.new.self c.in-Some.field-0 c.in-Some.ensures in
     let sum = c.loop-n.invariant.1 in
@@ -20,6 +20,6 @@ loop-n-smaller g c = let one = handed_fewer c.loop-n.self c.next.new.self c.in-S
 
 pub returns : goal.returns
 returns g c =
-    let none = ap length (handed_none c.loop-n.self c.next.new.self c.in-default.ensures) in
+    let none = ap length (handed_none c.loop-n.self c.next.new.self c.in_default.ensures) in
     let sum = c.loop-n.invariant.1 in
-    record { all = omega arith; none = handed_end c.loop-n.self c.next.new.self c.in-default.ensures }
+    record { all = omega arith; none = handed_end c.loop-n.self c.next.new.self c.in_default.ensures }

@@ -1,4 +1,4 @@
-use Rattle.std.proofs.Common.{◌≡◌, ◌+◌, ◌-◌, ◌<◌, ◌≤◌, leb, map, length, filter, sym, refl, ap, ◌∙◌, arith}
+use Rattle.std.proofs.Common.{◌≡◌, leb, map, length, filter, ap, ◌∙◌, arith}
 use Rattle.prints.specs.Choice.{chosen, at_place}
 use Rattle.prints.specs.Walk.{value_at, grams, remaining, winnowed}
 use Rattle.prints.proofs.Walks.{is_gram, kept_whole}
@@ -14,7 +14,7 @@ returns g c =
     let pos = c.requires.window.0 in
     let row = value_at g.H.GramHash.value c.args.k cs in
     let long : c.len.result ≡ length cs = c.len.ensures in
-    let count = c.gram-count-left.ensures in
+    let count = c.gram_count-left.ensures in
     let wide = c.new-queue.ensures.width in
     let all = chosen g.H.Value.Order.cmp c.args.w row (grams c.args.k cs) in
     record {
@@ -25,7 +25,7 @@ returns g c =
           coded = coded;
           size = omega arith;
           count = omega arith;
-          held = λ some. c.first-value-value.ensures (omega arith) (is_gram cs c.args.k 0 low high coded (omega arith));
+          held = λ some. c.first_value-value.ensures (omega arith) (is_gram cs c.args.k 0 low high coded (omega arith));
           queue = c.new-queue.ensures.none row;
         };
         gone = λ s p fits r. absurd (omega arith);

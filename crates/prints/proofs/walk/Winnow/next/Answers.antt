@@ -15,4 +15,4 @@ pub returns : goal.returns
 returns g c = onward_ends g.met.H.Value.Order.total c.args.self.now c.loop-self.self c.loop-self.invariant c.loop-self-test.false
 
 pub loop-self-preserved : goal.loop-self-preserved
-loop-self-preserved g c = onward_early g.met.H.Value.Order.total c.args.self.now c.loop-self.self c.advance.new.self c.loop-self.invariant c.in-default.ensures
+loop-self-preserved g c = onward_early g.met.H.Value.Order.total c.args.self.now c.loop-self.self c.advance.new.self c.loop-self.invariant c.in_default.ensures
