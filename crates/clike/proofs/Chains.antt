@@ -1,17 +1,16 @@
 -- The tokens of a text are sound and stand end to end.
-use Rattle.std.proofs.Common.{◌≡◌, ℕ, zero, suc, ◌+◌, ◌-◌, ◌<◌, ◌≤◌, min, Bool, true, false, cond, ◌&&◌, ltb, leb, ◌⊎◌, List, [], ◌∷◌, ◌++◌, length, get_or, take, drop, count_by, sym, refl, ap, ◌∙◌, subst, ⊎_elim, arith}
+use Rattle.std.proofs.Common.{◌≡◌, ℕ, zero, suc, ◌+◌, ◌<◌, ◌≤◌, true, List, [], ◌∷◌, ◌++◌, length, take, drop, sym, refl, ap, ◌∙◌, subst, ⊎_elim, arith}
 use Rattle.std.proofs.lemmas.List.{append-nil, length-take, length-take-le, length-drop, drop_all, drop-drop, take_all}
-use Rattle.std.proofs.lemmas.List.Sums.{sum_by-cons}
-use Rattle.std.proofs.lemmas.Bool.{and_parts, and_from, and_left, and_right, ltb-true, cases_lt, lt-ltb, le-ltb, le-leb, lt-leb, cond-true, cond-false}
+use Rattle.std.proofs.lemmas.Bool.{cases_lt}
 use Rattle.tokens.specs.declared.token.Class.{Class}
 use Rattle.tokens.specs.declared.token.Token.{Token}
 use Rattle.tokens.specs.Tokens.{limit, class_number, Sound, PlacedFrom}
 use Rattle.clike.proofs.Plain.{plain, plain_head, plain_drop, plain_take}
 use Rattle.tokens.proofs.Placing.{placed_weaker}
-use Rattle.clike.specs.Lexemes.{Kind, blank, comment, open_comment, quoted, name, keyword, number, mark, Piece, piece_of, first_shape, lexemes_in, lexemes}
-use Rattle.clike.specs.Clikes.{first_class, further_class, byte_token, byte_tokens, spelled, keyword_token, kind_tokens, tokens_of}
-use Rattle.clike.specs.Covering.{EndToEnd, covers, CoversOnce}
-use Rattle.clike.proofs.Shapes.{Numbered, Fitting, shape_fits}
+use Rattle.clike.specs.Lexemes.{Kind, blank, comment, open_comment, quoted, name, keyword, number, mark, first_shape, lexemes}
+use Rattle.clike.specs.Clikes.{byte_tokens, spelled, kind_tokens, tokens_of}
+use Rattle.clike.specs.Covering.{EndToEnd}
+use Rattle.clike.proofs.Shapes.{Numbered, shape_fits}
 use Rattle.clike.proofs.Pieces.{lexemes_none, lexemes_more}
 
 -- ---- sound tokens, end to end

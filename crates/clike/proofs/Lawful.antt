@@ -1,15 +1,15 @@
 -- The laws of the lexemes of a text.
-use Rattle.std.proofs.Common.{◌≡◌, ℕ, zero, suc, ◌+◌, ◌<◌, ◌≤◌, Bool, true, false, cond, not, ◌&&◌, ◌||◌, eqb, ◌⊎◌, List, [], ◌∷◌, ◌++◌, length, get_or, take, drop, Decides, Option, sym, refl, ap, ◌∙◌, subst, inl, inr, ⊎_elim, zero-add, add-one, one-add, arith}
-use Rattle.std.specs.List.{flat_map, prefix_len, AllByRecursion as All}
+use Rattle.std.proofs.Common.{◌≡◌, ℕ, zero, suc, ◌+◌, ◌<◌, ◌≤◌, Bool, true, false, cond, not, ◌&&◌, eqb, List, [], ◌∷◌, length, get_or, take, drop, Decides, sym, refl, ap, ◌∙◌, subst, zero-add, add-one, one-add, arith}
+use Rattle.std.specs.List.{prefix_len, AllByRecursion as All}
 use Rattle.std.proofs.lemmas.List.{length-take-le, length-drop, take_all}
-use Rattle.std.proofs.lemmas.Bool.{cond-true, cond-false, cond_both, cases_Bool, cases_eq, and_from, and_parts, and_left, and_right, or_from, or_left, or_right, or_cases, eq-eqb, ne_eqb, eqb-true, eqb-false, both_ways, not_from_true, not_from_false}
+use Rattle.std.proofs.lemmas.Bool.{cond-true, cond-false, and_from, and_parts, and_right, or_from, or_left, or_right, eq-eqb, ne_eqb, eqb-true, both_ways}
 use Rattle.std.proofs.lemmas.Bool.Decides.{nat_tests}
 use Rattle.tokens.specs.Texts.{nonzero}
-use Rattle.clike.specs.Lexemes.{comment, open_comment, quoted, Kind, Shape, shape, Piece, piece_of, read, begins_with, closing, closes, before_close, block_comment, is_quote, quoted_on, first_shape, first_lexeme, lexemes}
+use Rattle.clike.specs.Lexemes.{comment, open_comment, quoted, Shape, shape, read, begins_with, closing, closes, before_close, block_comment, is_quote, quoted_on, first_shape, first_lexeme, lexemes}
 use Rattle.clike.specs.Cutting.{lexeme_of}
-use Rattle.clike.specs.Laws.{ReadingStopsAtZero, CutToTheEnd, CuttingLosesNothing, ClosedAt, CommentEnds, CommentsEnd, taken, Goes_on, QuoteEnds, QuotesEnd}
+use Rattle.clike.specs.Laws.{ReadingStopsAtZero, CuttingLosesNothing, ClosedAt, CommentsEnd, taken, Goes_on, QuotesEnd}
 use Rattle.clike.proofs.Fronts.{quote_none}
-use Rattle.clike.proofs.Shapes.{Fitting, shape_fits, block_rule, quote_rule}
+use Rattle.clike.proofs.Shapes.{shape_fits, block_rule, quote_rule}
 use Rattle.clike.proofs.Pieces.{lexemes_none, lexemes_more, lexemes_join}
 
 pub reading_stops_at_zero : ReadingStopsAtZero

@@ -1,9 +1,9 @@
 -- All lexemes of a text.
-use Rattle.std.proofs.Common.{◌≡◌, ℕ, zero, suc, ◌+◌, ◌-◌, ◌<◌, ◌≤◌, List, [], ◌∷◌, ◌++◌, length, take, drop, sym, refl, ap, ◌∙◌, subst, arith}
+use Rattle.std.proofs.Common.{◌≡◌, ℕ, zero, suc, ◌≤◌, List, [], ◌∷◌, ◌++◌, length, take, drop, refl, ap, ◌∙◌, arith}
 use Rattle.std.specs.List.{flat_map}
-use Rattle.std.proofs.lemmas.List.{take-append-drop, length-take-le, length-drop}
-use Rattle.clike.specs.Lexemes.{Piece, piece_of, first_shape, lexemes_in, lexemes}
-use Rattle.clike.proofs.Shapes.{Fitting, shape_fits}
+use Rattle.std.proofs.lemmas.List.{take-append-drop, length-drop}
+use Rattle.clike.specs.Lexemes.{piece_of, first_shape, lexemes_in, lexemes}
+use Rattle.clike.proofs.Shapes.{shape_fits}
 
 -- steps beyond the number of bytes change nothing
 pub enough : (n m : ℕ) (text : List ℕ) → length text ≤ n → length text ≤ m → lexemes_in n text ≡ lexemes_in m text

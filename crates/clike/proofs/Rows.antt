@@ -1,10 +1,10 @@
 -- Cutting bytes to their end.
-use Rattle.std.proofs.Common.{◌≡◌, ℕ, zero, suc, ◌+◌, ◌<◌, ◌≤◌, Bool, true, false, cond, eqb, List, [], ◌∷◌, ◌++◌, map, length, take, drop, Some, None, Option, sym, refl, ap, ◌∙◌, subst, arith}
+use Rattle.std.proofs.Common.{◌≡◌, ℕ, zero, suc, ◌<◌, ◌≤◌, Bool, true, false, cond, eqb, List, [], ◌∷◌, ◌++◌, map, length, take, drop, Some, None, Option, sym, refl, ap, ◌∙◌, arith}
 use Rattle.std.specs.List.{flat_map}
 use Rattle.std.proofs.lemmas.List.{length-take-le, drop_at}
 use Rattle.clike.specs.declared.lexeme.Lexeme.{Lexeme}
 use Rattle.clike.specs.declared.lexeme.Lexeme.TheVariants.{Nothing, Blank, Comment, OpenComment, Quoted, Name, Keyword, Number, Mark}
-use Rattle.clike.specs.Lexemes.{Piece, piece_of, read, first_shape, first_lexeme, lexemes}
+use Rattle.clike.specs.Lexemes.{Piece, read, first_shape, first_lexeme, lexemes}
 use Rattle.clike.specs.Cutting.{lexeme_bytes, seen, Cuts}
 use Rattle.clike.proofs.Shapes.{shape_fits}
 use Rattle.clike.proofs.Pieces.{lexemes_none, lexemes_more, lexemes_join}

@@ -1,15 +1,15 @@
 -- The first lexeme: its rules one by one, and its size.
-use Rattle.std.proofs.Common.{◌≡◌, ℕ, zero, suc, ◌+◌, ◌<◌, ◌≤◌, Bool, true, false, cond, not, ◌&&◌, ◌||◌, eqb, ◌⊎◌, List, [], ◌∷◌, ◌++◌, length, get_or, take, drop, IfSome, Some, None, Option, sym, refl, ap, ◌∙◌, subst, ⊎_elim, arith}
+use Rattle.std.proofs.Common.{◌≡◌, ℕ, ◌+◌, ◌<◌, ◌≤◌, Bool, true, false, cond, ◌&&◌, ◌||◌, eqb, List, [], ◌∷◌, ◌++◌, length, get_or, take, drop, IfSome, Some, None, Option, sym, refl, ap, ◌∙◌, subst, ⊎_elim, arith}
 use Rattle.std.specs.List.{prefix_len}
-use Rattle.std.proofs.lemmas.List.{take-append-drop, length-take, length-drop}
+use Rattle.std.proofs.lemmas.List.{take-append-drop, length-take}
 use Rattle.std.proofs.lemmas.List.Sums.{prefix_len-le-length}
-use Rattle.std.proofs.lemmas.Bool.{cond_both, cond-true, cond-false, or_left, or_right, or_parts, and_parts, and_right, eqb-true, ne_eqb, both_ways, cases_lt}
+use Rattle.std.proofs.lemmas.Bool.{cond_both, cond-true, cond-false, or_left, or_right, and_parts, and_right, eqb-true, ne_eqb, both_ways, cases_lt}
 use Rattle.std.proofs.lemmas.Bool.Decides.{nat_tests}
-use Rattle.tokens.specs.Bytes.{is_blank, is_letter, is_digit}
+use Rattle.tokens.specs.Bytes.{is_blank, is_digit}
 use Rattle.clike.specs.declared.lexeme.Lexeme.{Lexeme}
 use Rattle.std.specs.Str.{bytes_eq}
 use Rattle.clike.specs.Keywords.{keywords, place_among, keyword_number}
-use Rattle.clike.specs.Lexemes.{Kind, blank, comment, open_comment, quoted, name, keyword, number, mark, Shape, shape, Piece, piece_of, read, begins_with, closing, closes, before_close, block_comment, in_line, is_quote, quoted_on, begins_word, in_word, in_number, word_kind, word, first_shape, first_lexeme}
+use Rattle.clike.specs.Lexemes.{Kind, blank, comment, open_comment, quoted, name, keyword, number, mark, Shape, shape, read, begins_with, closing, closes, before_close, block_comment, in_line, is_quote, quoted_on, begins_word, in_word, in_number, word_kind, word, first_shape, first_lexeme}
 use Rattle.clike.specs.Cutting.{lexeme_bytes, lexeme_of, seen, Cuts}
 use Rattle.clike.specs.declared.lexeme.Lexeme.TheVariants.{Nothing}
 use Rattle.clike.specs.declared.scan.CommentEnd.TheVariants.{Closed, Open}

@@ -1,8 +1,6 @@
 -- One step of a C-like source.
-use Rattle.std.proofs.Common.{◌≡◌, ℕ, zero, suc, ◌+◌, ◌-◌, ◌<◌, ◌≤◌, Bool, true, false, cond, eqb, List, [], ◌∷◌, ◌++◌, length, get_or, take, drop, Some, None, Option, sym, refl, ap, ◌∙◌, subst, add-zero, add-one, arith}
+use Rattle.std.proofs.Common.{◌≡◌, ℕ, suc, ◌+◌, ◌-◌, ◌<◌, ◌≤◌, List, [], ◌∷◌, ◌++◌, length, get_or, take, drop, Some, None, Option, sym, refl, ap, ◌∙◌, add-zero, arith}
 use Rattle.std.proofs.lemmas.List.{drop_more, drop-drop, drop_all, take_all, length-take-le, length-drop}
-use Rattle.std.proofs.lemmas.Bool.{cond-false, ne_eqb}
-use Rattle.tokens.specs.declared.token.Class.{Class}
 use Rattle.tokens.specs.declared.token.Token.{Token}
 use Rattle.tokens.specs.declared.token.Fault.{Fault}
 use Rattle.tokens.specs.declared.token.Cause.TheVariants.{OpenComment}
@@ -10,12 +8,12 @@ use Rattle.tokens.specs.Texts.{readable, file_fault, text_ending}
 use Rattle.tokens.proofs.Texts.{ends_on}
 use Rattle.clike.specs.Texts.{text_at}
 use Rattle.clike.specs.declared.state.Sort.{Sort}
-use Rattle.clike.specs.Lexemes.{Kind, open_comment, keyword, Shape, Piece, piece_of, read, first_shape, first_lexeme, lexemes}
+use Rattle.clike.specs.Lexemes.{Kind, open_comment, keyword, Piece, piece_of, first_shape, first_lexeme, lexemes}
 use Rattle.clike.specs.Cutting.{lexeme_of}
-use Rattle.clike.specs.Clikes.{first_class, further_class, byte_token, byte_tokens, spelled, keyword_token, kind_tokens, tokens_of, or_else, fault_of, open_fault}
+use Rattle.clike.specs.Clikes.{byte_token, byte_tokens, spelled, keyword_token, kind_tokens, tokens_of, or_else, fault_of, open_fault}
 use Rattle.clike.specs.declared.state.Clike.{Clike}
 use Rattle.clike.specs.States.{sort_first, sort_further, tokens_at, open_at, clike_left, ending_left}
-use Rattle.clike.proofs.Shapes.{Fitting, shape_fits}
+use Rattle.clike.proofs.Shapes.{shape_fits}
 use Rattle.clike.proofs.Pieces.{lexemes_none, lexemes_more}
 use Rattle.clike.proofs.Readings.{text_stays}
 

@@ -1,5 +1,5 @@
 -- What `cut` answers.
-use Rattle.std.specs.Prelude.{◌≡◌, ℕ, ◌<◌, List, [], ◌++◌, length, drop, Some, None, Option}
+use Rattle.std.specs.Prelude.{◌≡◌, ℕ, ◌<◌, List, [], ◌++◌, length, Some, None, Option}
 use Rattle.clike.specs.declared.lexeme.Lexeme.{Lexeme}
 use Rattle.clike.specs.declared.lexeme.Lexeme.TheVariants as lexeme
 use Rattle.clike.specs.Lexemes.{Kind, blank, comment, open_comment, quoted, name, keyword, number, mark, Piece, read, first_lexeme}

@@ -1,8 +1,8 @@
 -- What holds of the lexemes of every text, in words of places.
-use Rattle.std.specs.Prelude.{◌≡◌, ℕ, zero, suc, ◌+◌, ◌<◌, ◌≤◌, Bool, true, false, not, ◌&&◌, List, [], ◌∷◌, length, take, ◌==◌, ◌≢◌, slice_index, slice_index_or}
+use Rattle.std.specs.Prelude.{◌≡◌, ℕ, zero, suc, ◌+◌, ◌<◌, ◌≤◌, Bool, true, false, not, ◌&&◌, List, ◌∷◌, length, take, ◌==◌, ◌≢◌, slice_index, slice_index_or}
 use Rattle.std.specs.List.{flat_map, prefix_len, AllByRecursion as All}
 use Rattle.tokens.specs.Texts.{nonzero}
-use Rattle.clike.specs.Lexemes.{comment, open_comment, quoted, Piece, read, is_quote, first_lexeme, lexemes}
+use Rattle.clike.specs.Lexemes.{comment, open_comment, quoted, read, is_quote, first_lexeme, lexemes}
 use Rattle.clike.specs.Cutting.{lexeme_of}
 
 -- what is read are the bytes before the first zero byte

@@ -1,5 +1,6 @@
 // C-like files: cutting them into lexemes, and the source of their tokens.
 #![tactic(auto)]
+
 pub mod cutting;
 pub mod keyword;
 pub mod laws;

@@ -1,6 +1,5 @@
-use Rattle.std.proofs.Common.{◌≡◌, [], ◌∷◌, ◌++◌, map, length, Some, vec_items, sym, refl, ap, ◌∙◌, subst, arith}
+use Rattle.std.proofs.Common.{◌≡◌, [], ◌∷◌, ◌++◌, map, length, Some, vec_items, sym, ap, ◌∙◌, arith}
 use Rattle.std.proofs.lemmas.List.{append_assoc, append-nil, map_push, length-append}
-use Rattle.std.proofs.lemmas.Slice.{pushed}
 use Rattle.clike.specs.Lexemes.{read, lexemes}
 use Rattle.clike.specs.Cutting.{seen, lexeme_bytes}
 use Rattle.clike.proofs.Rows.{cut_more, cut_none, joined_whole}
@@ -11,14 +10,14 @@ loop-list-preserved c =
     let l = c.cut.result.0 in
     let items = vec_items c.loop-list.list in
     let new = map Some (lexemes (read c.cut.result.1.now)) in
-    let split = (cut_more c.loop-list.left.now c.cut.result.1.now l c.cut.ensures c.in-default.not-Nothing).0 in
-    ap (λ xs. map seen xs ++ new) c.in-ok-push.ensures.items ∙ ap (λ xs. xs ++ new) (map_push seen items l) ∙ append_assoc (map seen items) (seen l ∷ []) new
+    let split = (cut_more c.loop-list.left.now c.cut.result.1.now l c.cut.ensures c.in_default.not-Nothing).0 in
+    ap (λ xs. map seen xs ++ new) c.in_ok-push.ensures.items ∙ ap (λ xs. xs ++ new) (map_push seen items l) ∙ append_assoc (map seen items) (seen l ∷ []) new
     ∙ ap (λ xs. map seen items ++ xs) (sym split) ∙ c.loop-list.invariant
 
 pub loop-list-smaller : goal.loop-list-smaller
 loop-list-smaller c =
     let l = c.cut.result.0 in
-    let some = (cut_more c.loop-list.left.now c.cut.result.1.now l c.cut.ensures c.in-default.not-Nothing).1 in
+    let some = (cut_more c.loop-list.left.now c.cut.result.1.now l c.cut.ensures c.in_default.not-Nothing).1 in
     omega (arith, length-append (lexeme_bytes l) c.cut.result.1.now, ap length c.cut.ensures.whole, some)
 
 pub returns-in-Nothing : goal.returns-in-Nothing

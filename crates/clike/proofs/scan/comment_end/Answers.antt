@@ -1,4 +1,4 @@
-use Rattle.std.proofs.Common.{◌≡◌, ◌+◌, true, false, cond, length, sym, ap, ◌∙◌, arith}
+use Rattle.std.proofs.Common.{◌≡◌, ◌+◌, length, sym, ap, ◌∙◌, arith}
 use Rattle.std.proofs.lemmas.Bool.{cond-true, cond-false}
 use Rattle.clike.specs.declared.scan.CommentEnd.TheVariants.{Closed, Open}
 use Rattle.clike.specs.Lexemes.{read, closes, before_close}
@@ -12,16 +12,16 @@ returns-then-b-eq0 c =
     let size : c.loop-i.i ≡ length (read c.args.body.now) = omega (arith, all, c.loop-i.invariant.2) in
     record { ends = sym (cond-false (closes (read c.args.body.now)) _ _ (sym c.loop-i.invariant.0 ∙ none) ∙ ap Open (sym size)); bound = omega arith }
 
-pub returns-then-closes-at : goal.returns-then-closes-at
-returns-then-closes-at c =
-    let here = closes_here c.args.body.now c.loop-i.i c.loop-i-test.true c.if-b-eq0.false (sym c.if-closes-at.ensures) in
+pub returns-then-closes_at : goal.returns-then-closes_at
+returns-then-closes_at c =
+    let here = closes_here c.args.body.now c.loop-i.i c.loop-i-test.true c.if-b-eq0.false (sym c.if-closes_at.ensures) in
     let size : before_close (read c.args.body.now) + 2 ≡ c.loop-i.i + 2 = omega (arith, here.1, c.loop-i.invariant.1) in
-    let room = close_room c.args.body.now c.loop-i.i c.loop-i-test.true (sym c.if-closes-at.ensures) in
+    let room = close_room c.args.body.now c.loop-i.i c.loop-i-test.true (sym c.if-closes_at.ensures) in
     record { ends = sym (cond-true (closes (read c.args.body.now)) _ _ (sym c.loop-i.invariant.0 ∙ here.0) ∙ ap Closed size); bound = omega arith }
 
 pub loop-i-preserved : goal.loop-i-preserved
 loop-i-preserved c =
-    let later = closes_later c.args.body.now c.loop-i.i c.loop-i-test.true c.if-b-eq0.false (sym c.if-closes-at.ensures) in
+    let later = closes_later c.args.body.now c.loop-i.i c.loop-i-test.true c.if-b-eq0.false (sym c.if-closes_at.ensures) in
     let all = length_later c.args.body.now c.loop-i.i c.loop-i-test.true c.if-b-eq0.false in
     let inv = c.loop-i.invariant in
     (sym later.0 ∙ inv.0, omega (arith, later.1, inv.1), omega (arith, all, inv.2))

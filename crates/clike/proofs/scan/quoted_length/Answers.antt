@@ -1,4 +1,4 @@
-use Rattle.std.proofs.Common.{◌≡◌, ◌+◌, drop, sym, ap, ◌∙◌, arith}
+use Rattle.std.proofs.Common.{◌+◌, drop, ap, ◌∙◌, arith}
 use Rattle.clike.specs.Lexemes.{read, quoted_on}
 use Rattle.clike.proofs.Fronts.{read_stops, read_ends, quote_taken, quote_closed, quote_cut, quote_on, quote_none}
 use Rattle.clike.proofs.scan.quoted_length.Goals as goal

@@ -1,5 +1,4 @@
 use Rattle.std.proofs.Common.{◌≤◌, length, sym, subst, ⊎_elim, arith}
-use Rattle.std.proofs.lemmas.List.{length-take}
 use Rattle.std.proofs.lemmas.Bool.{cases_eq}
 use Rattle.tokens.specs.Tokens.{limit, class_number, Placed}
 use Rattle.tokens.specs.Texts.{readable}
@@ -34,7 +33,7 @@ returns c =
           let within = reads_within file at (omega (arith, ne)) in
           let size = text_length file at (omega (arith, ne)) in
           let short : length text ≤ limit = omega (arith, size, within.0, within.1) in
-          placed_at text at self.left (sort_further self.sort) (classed self.sort) (text_plain file at c.are-bytes.ensures) short)
+          placed_at text at self.left (sort_further self.sort) (classed self.sort) (text_plain file at c.are_bytes.ensures) short)
           (cases_eq (readable file at) 0);
       shallow = omega arith;
     }

@@ -1,5 +1,4 @@
-use Rattle.std.proofs.Common.{◌≡◌, ℕ, ◌+◌, ◌-◌, ◌<◌, ◌≤◌, List, [], ◌∷◌, length, get_or, Some, None, Ok, Option, sym, refl, ap, ◌∙◌, arith}
-use Rattle.tokens.specs.declared.token.Token.{Token}
+use Rattle.std.proofs.Common.{◌≡◌, ◌+◌, ◌-◌, ◌<◌, ◌≤◌, [], ◌∷◌, length, get_or, Some, None, Ok, Option, sym, refl, ap, ◌∙◌, arith}
 use Rattle.tokens.specs.declared.token.Fault.{Fault}
 use Rattle.tokens.specs.Tokens.{limit, first, rest}
 use Rattle.tokens.specs.Texts.{readable, text_ending}
@@ -9,7 +8,7 @@ use Rattle.clike.specs.Texts.{text_at}
 use Rattle.clike.specs.Clikes.{byte_token, or_else}
 use Rattle.clike.specs.States.{open_at, clike_left, ending_left, sort_further}
 use Rattle.clike.proofs.Readings.{text_ends, text_inside, text_byte, some_read}
-use Rattle.clike.proofs.Steps.{Follows, follows, done, ended, further_tokens, further_ending, same_left, same_ending}
+use Rattle.clike.proofs.Steps.{follows, done, ended, further_tokens, further_ending, same_left, same_ending}
 use Rattle.clike.proofs.reading.ClikeSource.next.Goals as goal
 
 -- nothing is to come where nothing is read
@@ -53,7 +52,7 @@ returns-then-b-eq0 c =
     let none = zero_none self.file.now self.at c.if-self-gt-LIMIT.false c.if-self.false c.if-b-eq0.true in
     let list = none_left self none in
     let end = none_open self _ (zero_ends self.file.now self.at c.if-self-gt-LIMIT.false c.if-self.false c.if-b-eq0.true) none in
-    let fault = c.file-fault-then-b-eq0.ensures in
+    let fault = c.file_fault-then-b-eq0.ensures in
     record { answer = cc (ap (λ x. first x (ending_left self)) list, ap (first []) end); left = list ∙ sym (ap rest list); ends = refl; stays = refl }
 
 pub returns-then-self-eq0 : goal.returns-then-self-eq0
@@ -75,8 +74,8 @@ returns c =
     let some : 0 < left = omega arith in
     let on = follows self next 1 refl refl (some_read file at c.if-self-gt-LIMIT.false c.if-self.false c.if-b-eq0.false) in
     let list : clike_left self ≡ byte_token at class (get_or xs at 0) ∷ clike_left next = further_tokens xs at left inside some self.sort ∙ ap (λ ts. byte_token at class (get_or xs at 0) ∷ ts) (sym (same_left next xs (at + 1) (left - 1) self.sort on.text refl refl refl)) in
-    let token : c.token-at-token.result ≡ byte_token at class (get_or xs at 0) =
-    c.token-at-token.ensures ∙ ap (λ k. byte_token at k (get_or file at 0)) c.further.ensures ∙ ap (byte_token at class) (sym (text_byte file at c.if-self-gt-LIMIT.false c.if-self.false c.if-b-eq0.false)) in
+    let token : c.token_at-token.result ≡ byte_token at class (get_or xs at 0) =
+    c.token_at-token.ensures ∙ ap (λ k. byte_token at k (get_or file at 0)) c.further.ensures ∙ ap (byte_token at class) (sym (text_byte file at c.if-self-gt-LIMIT.false c.if-self.false c.if-b-eq0.false)) in
     record {
       answer = sym (ap (λ x. first x (ending_left self)) list ∙ ap (λ t. Ok (Some t)) (sym token));
       left = sym (ap rest list);

@@ -16,7 +16,7 @@ use Rattle.clike.specs.Cutting.{lexeme_of, seen}
 use Rattle.clike.specs.Clikes.{byte_token, spelled, kind_tokens, keyword_token, or_else, fault_of}
 use Rattle.clike.specs.States.{sort_first, sort_further, clike_left, ending_left}
 use Rattle.clike.proofs.Readings.{text_read_on, some_read, text_inside, text_byte, text_length}
-use Rattle.clike.proofs.Steps.{Follows, follows, begun, some_lexeme, spell_token, spell_ends, open_ends, keyword_step}
+use Rattle.clike.proofs.Steps.{follows, begun, some_lexeme, spell_token, spell_ends, open_ends, keyword_step}
 use Rattle.clike.proofs.state.Clike.begin.Goals as goal
 
 -- what is required, and what the cut says: a lexeme that is seen as p begins at the next byte
@@ -110,13 +110,13 @@ returns-in-OpenComment c =
     let self = c.args.self.now in
     let g = begins self _ _ _ c.requires.within c.requires.short c.requires.some c.requires.new (take_rest self.file.now self.at) (ap seen c.in-OpenComment.is) c.cut.ensures.first in
     let e = c.spell-in-OpenComment.ensures in
-    let f = c.note-open.ensures in
-    let token = e.token ∙ ap (λ n. byte_token n Comment (get_or c.note-open.new.self.file.now n 0)) f.at ∙ ap (λ x. byte_token self.at Comment (get_or x.now self.at 0)) f.file in
+    let f = c.note_open.ensures in
+    let token = e.token ∙ ap (λ n. byte_token n Comment (get_or c.note_open.new.self.file.now n 0)) f.at ∙ ap (λ x. byte_token self.at Comment (get_or x.now self.at 0)) f.file in
     let step = spell_step self c.spell-in-OpenComment.new.self c.spell-in-OpenComment.result open_comment sort.Comment _ g (λ _. refl) (e.file ∙ f.file) (e.at ∙ ap (λ n. n + 1) f.at) e.left e.sort token in
     record { token = step.0; ends = step.2 refl (e.unclosed ∙ f.unclosed) }
 
-pub overflow-cast-result-in-Keyword : goal.overflow-cast-result-in-Keyword
-overflow-cast-result-in-Keyword c =
+pub overflow_cast-result-in-Keyword : goal.overflow_cast-result-in-Keyword
+overflow_cast-result-in-Keyword c =
     let self = c.args.self.now in
     let file = self.file.now in
     let run = c.in-Keyword.run'.now in
