@@ -1,5 +1,6 @@
 // Tests of the crate `clike`.
 #![tactic(auto)]
+
 #[cfg(test)]
 mod cuts;
 #[cfg(test)]
