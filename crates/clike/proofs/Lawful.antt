@@ -1,13 +1,13 @@
 -- The laws of the lexemes of a text.
 use Rattle.std.proofs.Common.{◌≡◌, ℕ, zero, suc, ◌+◌, ◌<◌, ◌≤◌, Bool, true, false, cond, not, ◌&&◌, eqb, List, [], ◌∷◌, length, get_or, take, drop, Decides, sym, refl, ap, ◌∙◌, subst, zero-add, add-one, one-add, arith}
-use Rattle.std.specs.List.{prefix_len, AllByRecursion as All}
+use Rattle.std.specs.List.{prefix_len, AllByRecursion}
 use Rattle.std.proofs.lemmas.List.{length-take-le, length-drop, take_all}
 use Rattle.std.proofs.lemmas.Bool.{cond-true, cond-false, and_from, and_parts, and_right, or_from, or_left, or_right, eq-eqb, ne_eqb, eqb-true, both_ways}
 use Rattle.std.proofs.lemmas.Bool.Decides.{nat_tests}
 use Rattle.tokens.specs.Texts.{nonzero}
 use Rattle.clike.specs.Lexemes.{comment, open_comment, quoted, Shape, shape, read, begins_with, closing, closes, before_close, block_comment, is_quote, quoted_on, first_shape, first_lexeme, lexemes}
 use Rattle.clike.specs.Cutting.{lexeme_of}
-use Rattle.clike.specs.Laws.{ReadingStopsAtZero, CuttingLosesNothing, ClosedAt, CommentsEnd, taken, Goes_on, QuotesEnd}
+use Rattle.clike.specs.Laws.{ReadingStopsAtZero, CuttingLosesNothing, ClosedAt, CommentsEnd, taken, GoesOn, QuotesEnd}
 use Rattle.clike.proofs.Fronts.{quote_none}
 use Rattle.clike.proofs.Shapes.{shape_fits, block_rule, quote_rule}
 use Rattle.clike.proofs.Pieces.{lexemes_none, lexemes_more, lexemes_join}
@@ -19,15 +19,15 @@ reading_stops_at_zero (b ∷ bs) =
     let Goal : Bool → Type 0 = λ t. cond t [] (b ∷ read bs) ≡ take (cond (not t) (1 + prefix_len nonzero bs) 0) (b ∷ bs) in
     elim (eqb b 0) as Goal [ true ↦ refl | false ↦ ap (λ xs. b ∷ xs) more ∙ ap (λ n. take n (b ∷ bs)) (sym (one-add (prefix_len nonzero bs))) ]
 
-all_some : (n : ℕ) (text : List ℕ) → length text ≤ n → All (λ p. 0 < length p.bytes) (lexemes text)
-all_some n [] h = subst (All (λ p. 0 < length p.bytes)) (sym lexemes_none) tt
+all_some : (n : ℕ) (text : List ℕ) → length text ≤ n → AllByRecursion (λ p. 0 < length p.bytes) (lexemes text)
+all_some n [] h = subst (AllByRecursion (λ p. 0 < length p.bytes)) (sym lexemes_none) tt
 all_some zero (b ∷ after) h = absurd (omega arith)
 all_some (suc n) (b ∷ after) h =
     let s = first_shape b after in
     let fits = shape_fits b after in
     let short = length-drop s.size (b ∷ after) in
     let long = length-take-le s.size (b ∷ after) fits.1 in
-    subst (All (λ p. 0 < length p.bytes)) (sym (lexemes_more b after)) (omega (arith, fits.0), all_some n (drop s.size (b ∷ after)) (omega (arith, fits.0)))
+    subst (AllByRecursion (λ p. 0 < length p.bytes)) (sym (lexemes_more b after)) (omega (arith, fits.0), all_some n (drop s.size (b ∷ after)) (omega (arith, fits.0)))
 
 pub cutting_loses_nothing : CuttingLosesNothing
 cutting_loses_nothing text = record { whole = lexemes_join text; some = all_some (length text) text (omega arith) }
@@ -163,17 +163,17 @@ module _ (q : ℕ) (body : List ℕ) (quote : is_quote q ≡ true) where
   made : (n : ℕ) → quoted_on q false body ≡ n → first_lexeme (q ∷ body) ≡ lexeme_of quoted (take (1 + n) (q ∷ body))
   made n e = ap (λ x. lexeme_of x.kind (take x.size (q ∷ body))) (quote_rule q body quote ∙ ap (λ m. shape quoted (1 + m)) e)
 
-  on_body : (m : ℕ) → Goes_on q (q ∷ body) (suc m) → On q false body m
+  on_body : (m : ℕ) → GoesOn q (q ∷ body) (suc m) → On q false body m
   on_body m h e = h (behind m ∙ e)
 
-  quote_closes : (n : ℕ) → 1 ≤ n → n < length (q ∷ body) → ((m : ℕ) → 1 ≤ m → m < n → Goes_on q (q ∷ body) m) → taken (q ∷ body) n ≡ false → get_or (q ∷ body) n 0 ≡ q → first_lexeme (q ∷ body) ≡ lexeme_of quoted (take (n + 1) (q ∷ body))
+  quote_closes : (n : ℕ) → 1 ≤ n → n < length (q ∷ body) → ((m : ℕ) → 1 ≤ m → m < n → GoesOn q (q ∷ body) m) → taken (q ∷ body) n ≡ false → get_or (q ∷ body) n 0 ≡ q → first_lexeme (q ∷ body) ≡ lexeme_of quoted (take (n + 1) (q ∷ body))
   quote_closes zero low high h e is = absurd (omega arith)
   quote_closes (suc n) low high h e is =
       let count = on_until q false body n 1 (omega arith) (λ m g. on_body m (h (suc m) (omega arith) (omega arith))) (sym (behind n) ∙ e) (λ bs. cond-true (eqb (get_or body n 0) q) _ _ (eq-eqb (get_or body n 0) q is)) in
       let size : 1 + (n + 1) ≡ suc n + 1 = omega arith in
       made (n + 1) count ∙ ap (λ m. lexeme_of quoted (take m (q ∷ body))) size
 
-  quote_line : (n : ℕ) → 1 ≤ n → n < length (q ∷ body) → ((m : ℕ) → 1 ≤ m → m < n → Goes_on q (q ∷ body) m) → taken (q ∷ body) n ≡ false → get_or (q ∷ body) n 0 ≡ 10 → first_lexeme (q ∷ body) ≡ lexeme_of quoted (take n (q ∷ body))
+  quote_line : (n : ℕ) → 1 ≤ n → n < length (q ∷ body) → ((m : ℕ) → 1 ≤ m → m < n → GoesOn q (q ∷ body) m) → taken (q ∷ body) n ≡ false → get_or (q ∷ body) n 0 ≡ 10 → first_lexeme (q ∷ body) ≡ lexeme_of quoted (take n (q ∷ body))
   quote_line zero low high h e is = absurd (omega arith)
   quote_line (suc n) low high h e is =
       let not_line : eqb 10 q ≡ false = grind (arith, nat_tests) in
@@ -183,7 +183,7 @@ module _ (q : ℕ) (body : List ℕ) (quote : is_quote q ≡ true) where
       let size : 1 + (n + 0) ≡ suc n = omega arith in
       made (n + 0) count ∙ ap (λ m. lexeme_of quoted (take m (q ∷ body))) size
 
-  quote_all : ((m : ℕ) → 1 ≤ m → m < length (q ∷ body) → Goes_on q (q ∷ body) m) → first_lexeme (q ∷ body) ≡ lexeme_of quoted (q ∷ body)
+  quote_all : ((m : ℕ) → 1 ≤ m → m < length (q ∷ body) → GoesOn q (q ∷ body) m) → first_lexeme (q ∷ body) ≡ lexeme_of quoted (q ∷ body)
   quote_all h =
       made (length body) (on_all q false body (λ m l. on_body m (h (suc m) (omega arith) (omega arith)))) ∙ ap (lexeme_of quoted) (take_all (1 + length body) (q ∷ body) (omega arith))
 
