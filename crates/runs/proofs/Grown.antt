@@ -1,9 +1,9 @@
 -- A gram that is the same in both lists, grown to both sides, is the one longest run around it. Assumes nothing.
-use Rattle.std.proofs.Common.{◌≡◌, ℕ, zero, suc, ◌+◌, ◌-◌, ◌<◌, ◌≤◌, Bool, true, false, ◌⊎◌, List, length, sym, refl, ap, ◌∙◌, subst, ap₂, inl, inr, ⊎_elim, arith}
+use Rattle.std.proofs.Common.{◌≡◌, ℕ, ◌+◌, ◌-◌, ◌<◌, ◌≤◌, Bool, true, List, sym, ◌∙◌, ap₂, ⊎_elim, arith}
 use Rattle.std.proofs.lemmas.Bool.{both_ways, cases_lt, cases_order}
 use Rattle.tokens.specs.declared.token.Token.{Token}
 use Rattle.runs.specs.declared.longest.Run.{Run}
-use Rattle.runs.specs.Shares.{same_at, SameGrams, Shared, Longest, Around, TheRun, SameBefore, SameFrom}
+use Rattle.runs.specs.Shares.{same_at, SameGrams, Around, TheRun, SameBefore, SameFrom}
 
 module _ (xs ys : List Token) where
   -- the same two places, written otherwise

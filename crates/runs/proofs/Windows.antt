@@ -1,16 +1,16 @@
 -- A shared run has the same values at the same distances, and its first window a pair. Assumes nothing.
-use Rattle.std.proofs.Common.{◌≡◌, ℕ, suc, ◌+◌, ◌-◌, ◌<◌, ◌≤◌, Bool, true, List, map, length, get_or, take, drop, Ordering, sym, refl, ap, ◌∙◌, subst, arith}
+use Rattle.std.proofs.Common.{◌≡◌, ℕ, ◌+◌, ◌-◌, ◌<◌, ◌≤◌, true, List, length, get_or, drop, Ordering, sym, ap, ◌∙◌, arith}
 use Rattle.std.proofs.lemmas.List.{length-map, length-take, length-drop, get_or-map, get_or-take, get_or-drop, ext_get_or}
 use Rattle.std.proofs.lemmas.Bool.{eqb-true}
 use Rattle.order.specs.Total.{TotalOrder}
 use Rattle.tokens.specs.declared.token.Token.{Token}
 use Rattle.tokens.specs.Tokens.{same}
-use Rattle.prints.specs.Choice.{Rightmost, Chosen, pick}
-use Rattle.prints.specs.Walk.{gram, grams, value_at, winnowed}
+use Rattle.prints.specs.Choice.{Rightmost, pick}
+use Rattle.prints.specs.Walk.{gram}
 use Rattle.prints.proofs.Picks.{picked_rightmost, rightmost_moved}
 use Rattle.prints.proofs.Winnowed.{winnowed_exact}
-use Rattle.runs.specs.Shares.{unused, same_at, Shared, Longest}
-use Rattle.runs.specs.Passages.{Scheme, codes, width, row, places, Print, Pair, Passage, scheme, Guarantee, PrintsListed}
+use Rattle.runs.specs.Shares.{unused, Shared, Longest}
+use Rattle.runs.specs.Passages.{Scheme, codes, width, row, Print, Passage, scheme, Guarantee, PrintsListed}
 
 -- the one fact of `same` that is used
 pub same_code : (a b : Token) → same a b ≡ true → a.code ≡ b.code

@@ -1,5 +1,5 @@
 -- Pairs of fingerprints, and the passages that they mark. Assumes nothing.
-use Rattle.std.specs.Prelude.{◌≡◌, ℕ, ◌+◌, ◌-◌, ◌<◌, ◌≤◌, List, map}
+use Rattle.std.specs.Prelude.{◌≡◌, ℕ, ◌+◌, ◌-◌, ◌≤◌, List, map}
 use Rattle.std.specs.declared.cmp.Ordering.{Ordering}
 use Rattle.order.specs.Listed.{ListsExactly}
 use Rattle.tokens.specs.declared.token.Token.{Token}

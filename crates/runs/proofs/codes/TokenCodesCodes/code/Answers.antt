@@ -6,7 +6,7 @@ use Rattle.runs.proofs.Windows.{length_codes}
 use Rattle.runs.proofs.codes.TokenCodesCodes.code.Goals as goal
 
 pub returns-then-i-self : goal.returns-then-i-self
-returns-then-i-self c = c.code-at.ensures ∙ sym (get_or-map (λ a. a.code) c.args.self.now.all.now c.args.i unused 0 (omega arith))
+returns-then-i-self c = c.code_at.ensures ∙ sym (get_or-map (λ a. a.code) c.args.self.now.all.now c.args.i unused 0 (omega arith))
 
 pub returns-else-i-self : goal.returns-else-i-self
 returns-else-i-self c =
