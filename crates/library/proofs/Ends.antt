@@ -1,6 +1,6 @@
 -- What the lists hold after any list of calls.
 use Rattle.std.proofs.Common.{◌≡◌, ℕ, ◌-◌, ◌≤◌, min, true, List, [], ◌∷◌, ◌++◌, length, take, drop, replicate, Ordering, sym, refl, ap, ◌∙◌, subst, ap₂, append-nil, arith}
-use Rattle.std.specs.List.{AllByRecursion as All}
+use Rattle.std.specs.List.{AllByRecursion}
 use Rattle.std.proofs.lemmas.List.{take-append-drop, length-take-le, length-append, length-replicate, take_at, drop_at, take_all, drop_all, take-append-le, length-take}
 use Rattle.order.specs.Total.{TotalOrder}
 use Rattle.order.specs.Listed.{In, ListsExactly}

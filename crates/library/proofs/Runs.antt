@@ -1,6 +1,6 @@
 -- A list of calls, turn by turn.
 use Rattle.std.proofs.Common.{◌≡◌, ℕ, true, List, [], ◌∷◌, ◌++◌, map, length, Ordering, sym, refl, ap, ◌∙◌, subst, ap₂, append_assoc, append-nil}
-use Rattle.std.specs.List.{AllByRecursion as All}
+use Rattle.std.specs.List.{AllByRecursion}
 use Rattle.std.proofs.lemmas.List.{map_push}
 use Rattle.runs.specs.Passages.{scheme}
 use Rattle.model.specs.declared.calls.Answer.{Answer}
@@ -33,7 +33,7 @@ module _ {H V : Type 0} where
         prints = b.prints ∙ a.prints;
       }
 
-all_front : {X : Type 0} (P : X → Type 0) (xs : List X) (x : X) → All P (xs ++ x ∷ []) → All P xs × P x
+all_front : {X : Type 0} (P : X → Type 0) (xs : List X) (x : X) → AllByRecursion P (xs ++ x ∷ []) → AllByRecursion P xs × P x
 all_front P [] x h = (tt, h.0)
 all_front P (y ∷ ys) x h = let r = all_front P ys x h.1 in ((h.0, r.0), r.1)
 
@@ -47,7 +47,7 @@ module _ {H V : Type 0} (value : List ℕ → V) (cmp : V → V → Ordering) wh
     pub sound : Sound value cmp s₀ → Sound value cmp s
     pub joined : Sound value cmp s₀ → done ++ outcomes (setting value cmp s₀) (files s) left ≡ outcomes (setting value cmp s₀) (files s₀) all
     pub then : Sound value cmp s₀ → held_after (setting value cmp s₀) (files s) left ≡ held_after (setting value cmp s₀) (files s₀) all
-    pub unchanged : Sound value cmp s₀ → All (λ o. quiet o ≡ true) done → Same s₀ s
+    pub unchanged : Sound value cmp s₀ → AllByRecursion (λ o. quiet o ≡ true) done → Same s₀ s
     pub kept : Kept s₀ s
 
   begun : (s : Store H V) (cs : List Asked) → Underway s s cs [] cs

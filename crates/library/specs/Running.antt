@@ -1,7 +1,7 @@
 -- What any list of calls answers, and what the lists that were lent hold in the end. Assumes nothing.
 use Rattle.std.specs.Prelude.{◌≡◌, ℕ, min, true, List, [], ◌++◌, length, take, drop}
 use Rattle.std.specs.declared.cmp.Ordering.{Ordering}
-use Rattle.std.specs.List.{AllByRecursion as All}
+use Rattle.std.specs.List.{AllByRecursion}
 use Rattle.order.specs.Listed.{In, ListsExactly}
 use Rattle.tokens.specs.declared.token.Token.{Token}
 use Rattle.tokens.specs.Tokens.{limit}
@@ -41,4 +41,4 @@ pub record Ran {V : Type 0} (st : Setting V) (cs : List Asked) (os : List Outcom
   pub token_list : TokensHold st (held_after st [] cs) tokens tokens'
   pub index_list : IndexHolds st (held_after st [] cs) index index'
   -- where each call was refused or only asked, every entry of the index is as it was
-  pub unchanged : All (λ o. quiet o ≡ true) os → index' ≡ index
+  pub unchanged : AllByRecursion (λ o. quiet o ≡ true) os → index' ≡ index

@@ -1,7 +1,7 @@
 -- What a store stands for. Assumes nothing.
 use Rattle.std.specs.Prelude.{◌≡◌, ℕ, ◌-◌, ◌≤◌, min, true, List, [], length, take, drop, replicate}
 use Rattle.std.specs.declared.cmp.Ordering.{Ordering}
-use Rattle.std.specs.List.{AllByRecursion as All}
+use Rattle.std.specs.List.{AllByRecursion}
 use Rattle.tokens.specs.declared.token.Token.{Token}
 use Rattle.tokens.specs.Tokens.{limit}
 use Rattle.runs.specs.Shares.{unused}
@@ -93,7 +93,7 @@ pub record AllTold {H V : Type 0} (value : List ℕ → V) (cmp : V → V → Or
   pub answers : os ≡ outcomes (setting value cmp s) (files s) cs
   pub leaves : files t ≡ held_after (setting value cmp s) (files s) cs
   pub sound : Sound value cmp t
-  pub unchanged : All (λ o. quiet o ≡ true) os → Same s t
+  pub unchanged : AllByRecursion (λ o. quiet o ≡ true) os → Same s t
 
 -- what the calls do
 pub record Steps {H V : Type 0} (value : List ℕ → V) (cmp : V → V → Ordering) (s t : Store H V) (cs : List Asked) (os : List Outcome) : Type 0 where

@@ -12,7 +12,6 @@ use Rattle.model.specs.declared.calls.Answer.{Answer}
 use Rattle.model.specs.declared.calls.Answer.TheVariants as answers
 use Rattle.model.specs.declared.fingerprint.Fingerprint.{Fingerprint}
 use Rattle.model.specs.declared.passage.Passage.{Passage}
-use Rattle.model.specs.declared.refusal.Reason.{Reason}
 use Rattle.model.specs.declared.refusal.Reason.TheVariants.{NumberZero, NumberHeld, TooManyFiles, WorkShort, TokensFull, IndexFull, RemoveUnheld, ReportUnheld, ReportFull, HeldShort}
 use Rattle.model.specs.declared.refusal.Refusal.{Refusal}
 use Rattle.model.specs.Files.{Files, known, without, held_tokens}

@@ -1,5 +1,5 @@
 -- The held files: for each its number and its tokens, in order of the Adds. Assumes nothing.
-use Rattle.std.specs.Prelude.{◌≡◌, ℕ, Bool, true, false, cond, not, ◌||◌, List, [], ◌∷◌, length, filter, ◌==◌}
+use Rattle.std.specs.Prelude.{◌≡◌, ℕ, Bool, false, cond, not, ◌||◌, List, [], ◌∷◌, filter, ◌==◌}
 use Rattle.std.specs.List.{flat_map}
 use Rattle.tokens.specs.declared.token.Token.{Token}
 

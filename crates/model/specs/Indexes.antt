@@ -1,7 +1,6 @@
 -- The same pairs as they are read off the index. Assumes nothing.
-use Rattle.std.specs.Prelude.{◌≡◌, ℕ, Bool, true, cond, not, ◌&&◌, List, [], map, length, filter, ◌==◌}
+use Rattle.std.specs.Prelude.{◌≡◌, ℕ, true, cond, not, List, [], filter, ◌==◌}
 use Rattle.std.specs.declared.cmp.Ordering.{Ordering}
-use Rattle.std.specs.Ordering.{is_eq}
 use Rattle.std.specs.List.{flat_map}
 use Rattle.order.specs.Listed.{In}
 use Rattle.model.specs.declared.fingerprint.Fingerprint.{Fingerprint}

@@ -1,5 +1,5 @@
 // Tokens read as codes.
-ghost use Rattle.runs.specs.Passages.{codes as token-codes};
+ghost use Rattle.runs.specs.Passages.{codes as token_codes};
 ghost use Rattle.std.specs.Prelude.{◌≡◌, ◌<◌, length, slice_index_or};
 ghost use Rattle.runs.specs.Shares.{unused};
 
@@ -21,7 +21,7 @@ fn code_at(all: &[Token], i: usize) -> u16
 }
 
 impl Codes for TokenCodes<'_> {
-    ghost codes = { λ s. token-codes s.all.now };
+    ghost codes = { λ s. token_codes s.all.now };
 
     fn len(&self) -> usize {
         self.all.len()

@@ -6,8 +6,8 @@ use Rattle.tokens.specs.declared.token.Token.{Token}
 use Rattle.piles.specs.declared.pile.Reader.TheVariants.{Prose}
 use Rattle.piles.specs.declared.pile.Layer.TheVariants.{Case, Drop}
 use Rattle.piles.specs.Piles.{Stream, read_as, piled}
-use Rattle.clike.specs.Worked.{WorkedCases as Clike-cases}
-use Rattle.prints.specs.Worked.{Worked as Print-cases}
+use Rattle.clike.specs.Worked.{WorkedCases as ClikeCases}
+use Rattle.prints.specs.Worked.{Worked as PrintCases}
 
 abbrev token : ℕ → Class → ℕ → ℕ → Token
 token c k f t = record { code = c; class = k; from = f; to = t }
@@ -20,4 +20,4 @@ PlainText =
 
 -- all cases together: the text above, two C-like texts, hash values, and chosen places
 abbrev pub Worked : Type 0
-Worked = PlainText × Clike-cases × Print-cases
+Worked = PlainText × ClikeCases × PrintCases

@@ -1,5 +1,5 @@
 use Rattle.std.proofs.Common.{◌≡◌, ℕ, ◌-◌, min, List, [], ◌++◌, length, take, vec_items, sym, refl, ap, ◌∙◌, ap₂, arith}
-use Rattle.std.specs.List.{flat_map as joined}
+use Rattle.std.specs.List.{flat_map}
 use Rattle.std.proofs.lemmas.Slice.{pushed}
 use Rattle.model.specs.declared.passage.Passage.{Passage}
 use Rattle.pages.specs.Pages.{counts_line, passage_line}
@@ -11,5 +11,5 @@ returns c =
     let list = c.args.list.now in
     let n = c.args.counts.passages in
     let first : vec_items c.push_row.new.out ≡ counts_line c.args.counts = pushed (counts_line c.args.counts) c.new-out.ensures.items c.in_ok-push_row.was c.push_row.ensures in
-    let then : vec_items c.push_passages.new.out ≡ vec_items c.push_row.new.out ++ joined passage_line (take (c.min-end.result - 0) list) = c.in_ok-push_passages.ensures refl in
-    then ∙ ap₂ ◌++◌ first (ap (joined passage_line) (take_capped n (c.min-end.result - 0) list (let m = c.min-end.ensures in omega arith)))
+    let then : vec_items c.push_passages.new.out ≡ vec_items c.push_row.new.out ++ flat_map passage_line (take (c.min-end.result - 0) list) = c.in_ok-push_passages.ensures refl in
+    then ∙ ap₂ ◌++◌ first (ap (flat_map passage_line) (take_capped n (c.min-end.result - 0) list (let m = c.min-end.ensures in omega arith)))
