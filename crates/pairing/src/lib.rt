@@ -2,6 +2,7 @@
 //
 // The index rises by value, so that the fingerprints of one value stand together in it. One walk over it meets every pair.
 #![tactic(auto)]
+
 mod groups;
 mod pairs;
 pub mod report;

@@ -16,7 +16,7 @@ use Rattle.model.specs.declared.fingerprint.Fingerprint.{Fingerprint}
 use Rattle.model.specs.declared.passage.Passage.{Passage}
 use Rattle.model.specs.Calls.{report, Setting, padded, answer}
 use Rattle.model.specs.Files.{Files, known, tokens_of, Distinct}
-use Rattle.model.specs.Passages.{no_passage, passage, grown, alike, around, marked, differing, pairs, pairs_of, passages_of}
+use Rattle.model.specs.Passages.{no_passage, passage, grown, alike, around, marked, differing, pairs_of, passages_of}
 use Rattle.model.specs.Totals.{eight_total}
 use Rattle.model.proofs.Gathers.{gathered_exactly}
 use Rattle.model.proofs.Grows.{grown_around}

@@ -5,5 +5,5 @@ use Rattle.indexing.proofs.index_lists.Goals as goal
 
 pub returns : goal.returns
 returns g c k t fs d =
-    let o = g.met.Value.Order.total in
+    let o = g.met.H.Value.Order.total in
     (index_exactly (scheme _ _ k t) o fs, index_count (scheme _ _ k t) o fs d)

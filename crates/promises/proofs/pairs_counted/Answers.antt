@@ -3,4 +3,4 @@ use Rattle.promises.proofs.Pairing.{pairs_counted}
 use Rattle.promises.proofs.pairs_counted.Goals as goal
 
 pub returns : goal.returns
-returns g c k t = pairs_counted (scheme _ _ k t) g.met.Value.Order.total
+returns g c k t = pairs_counted (scheme _ _ k t) g.met.H.Value.Order.total

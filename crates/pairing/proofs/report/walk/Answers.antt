@@ -1,6 +1,6 @@
-use Rattle.std.proofs.Common.{arith}
+use Rattle.std.proofs.Common.{arith, rules}
 use Rattle.pairing.specs.Scopes.{files}
-use Rattle.pairing.proofs.Walked.{walked_all, walked_more, walked_full}
+use Rattle.pairing.proofs.Walked.{walked_none, walked_all, walked_more, walked_full}
 use Rattle.pairing.proofs.report.walk.Goals as goal
 
 pub returns-in_err-counts : goal.returns-in_err-counts
@@ -18,3 +18,8 @@ pub returns : goal.returns
 returns g c r =
     let s = c.args.scope in
     walked_all g.met.V.Order.total s.number s.k (files s) c.args.index.now c.loop-at.at c.loop-at.invariant.1 (omega arith) r
+
+pub loop-at-init : goal.loop-at-init
+loop-at-init g c =
+    let s = c.args.scope in
+    (omega arith, walked_none g.V.Order.cmp s.number s.k (files s) c.args.index.now c.args.list.now _ (search rules))
