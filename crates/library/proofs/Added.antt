@@ -1,7 +1,7 @@
 -- What an Add answers and leaves.
-use Rattle.std.proofs.Common.{◌≡◌, ℕ, ◌+◌, ◌-◌, ◌<◌, ◌≤◌, Bool, true, false, cond, eqb, ltb, leb, List, [], ◌∷◌, ◌++◌, map, length, get_or, take, drop, set, replicate, is_some, is_ok, is_err, Some, None, Ok, Err, Option, Result, Ordering, sym, refl, ap, ◌∙◌, subst, ap₂, ⊎_elim, append_assoc, arith, ltb-false, leb-false}
+use Rattle.std.proofs.Common.{◌≡◌, ℕ, ◌+◌, ◌-◌, ◌<◌, ◌≤◌, Bool, true, false, cond, eqb, ltb, leb, List, [], ◌∷◌, ◌++◌, map, length, take, drop, set, replicate, is_some, is_err, Some, None, Ok, Err, Option, Ordering, sym, refl, ap, ◌∙◌, subst, ap₂, ⊎_elim, append_assoc, arith, ltb-false, leb-false}
 use borrow.Author.Tests.{both_ways}
-use Rattle.std.proofs.lemmas.List.{length-take-le, take-append-drop, take_at, drop_at, drop-drop, drop-replicate, take_more_set, length-append, length-take, length-drop, length-map, length-set}
+use Rattle.std.proofs.lemmas.List.{length-take-le, take-append-drop, take_at, drop_at, drop-replicate, take_more_set, length-append, length-take, length-drop, length-map, length-set}
 use Rattle.std.proofs.lemmas.Bool.{cases_Bool}
 use Rattle.order.specs.Total.{TotalOrder}
 use Rattle.tokens.specs.declared.token.Token.{Token}
@@ -10,18 +10,17 @@ use Rattle.prints.specs.declared.window.Placed.{Placed}
 use Rattle.prints.specs.Walk.{winnowed}
 use Rattle.runs.specs.Shares.{unused}
 use Rattle.runs.specs.Passages.{Scheme, scheme, codes, width, print_list}
-use Rattle.model.specs.declared.answers.Added.{Added}
 use Rattle.model.specs.declared.fingerprint.Fingerprint.{Fingerprint}
 use Rattle.model.specs.declared.refusal.Reason.TheVariants.{NumberZero, NumberHeld, TooManyFiles, WorkShort, TokensFull, IndexFull}
 use Rattle.model.specs.declared.refusal.Refusal.{Refusal}
 use Rattle.model.specs.declared.table.Entry.{Entry}
-use Rattle.model.specs.Files.{Files, known, held_tokens, Distinct}
+use Rattle.model.specs.Files.{Files, known, held_tokens}
 use Rattle.ordered.specs.Gathered.{AllIn}
 use Rattle.model.specs.Prints.{by_fields, filed, print_count}
 use Rattle.tokens.specs.declared.token.Cause.TheVariants.{TooLong, ZeroByte, OpenComment, LongName, Fifth, Sixth, Seventh, Eighth, Ninth}
 use Rattle.model.specs.Refusals.{plain, handed_on, of_cause}
 use Rattle.model.specs.Tables.{cut, extent}
-use Rattle.model.specs.Calls.{Setting, add, added, add_refusal, ending_refusal, unless, most_files}
+use Rattle.model.specs.Calls.{Setting, add, added, add_refusal, ending_refusal, most_files}
 use Rattle.model.proofs.Tabled.{held_cut}
 use Rattle.filling.proofs.Surgery.{cut_added, extent_added}
 use Rattle.indexing.proofs.Counts.{index_count}
@@ -29,7 +28,7 @@ use Rattle.indexing.proofs.Index.{index_added}
 use Rattle.model.proofs.Held.{distinct_push}
 use Rattle.library.specs.declared.filed.Taken.{Taken}
 use Rattle.library.specs.declared.store.Store.{Store}
-use Rattle.library.specs.Stores.{Shape, Sound, Same, Kept, Told, Step, live, files, setting}
+use Rattle.library.specs.Stores.{Shape, Sound, Same, Kept, Step, live, files, setting}
 use Rattle.library.specs.Adding.{admit_refusal, taking_refusal, behind, early, TakenIn}
 use Rattle.library.proofs.Stays.{stays, file_count}
 

@@ -1,5 +1,5 @@
 -- A file taken into a store.
-use Rattle.std.proofs.Common.{◌≡◌, ℕ, ◌+◌, ◌-◌, ◌<◌, ◌≤◌, Bool, true, false, cond, not, eqb, ltb, leb, List, [], ◌∷◌, ◌++◌, map, length, get_or, take, drop, replicate, is_some, is_ok, is_err, Some, None, Ok, Err, Option, Result, Ordering, sym, refl, ap, ◌∙◌, subst, ap₂, ⊎_elim, append_assoc, arith, ltb-false, le-ltb, lt-ltb, eq-eqb, ne_eqb, le-leb, MatchOption}
+use Rattle.std.proofs.Common.{◌≡◌, ℕ, ◌+◌, ◌-◌, ◌<◌, ◌≤◌, true, false, cond, eqb, ltb, leb, List, [], ◌++◌, map, length, take, drop, is_some, is_ok, is_err, Some, None, Ok, Err, Option, Result, Ordering, sym, refl, ap, ◌∙◌, subst, ⊎_elim, arith, ltb-false, le-ltb, lt-ltb, ne_eqb, le-leb, MatchOption}
 use Rattle.std.proofs.lemmas.List.{take_at, drop_at, length-take-le, length-append, length-take, length-map, length-drop, take_all, drop_all, append-nil}
 use borrow.Author.Tests.{both_ways, lt-leb}
 use Rattle.std.proofs.lemmas.Bool.{cases_Bool}
@@ -10,7 +10,7 @@ use Rattle.model.specs.declared.fingerprint.Fingerprint.{Fingerprint}
 use Rattle.model.specs.Prints.{by_fields, filed}
 use Rattle.model.specs.declared.table.Entry.{Entry}
 use Rattle.model.specs.declared.table.Spot.{Spot}
-use Rattle.model.specs.declared.refusal.Reason.TheVariants.{NumberZero, NumberHeld, TooManyFiles, WorkShort, TokensFull, IndexFull}
+use Rattle.model.specs.declared.refusal.Reason.TheVariants.{NumberHeld, TooManyFiles, WorkShort, TokensFull, IndexFull}
 use Rattle.model.specs.Files.{Files, known}
 use Rattle.tokens.specs.declared.token.Fault.{Fault}
 use Rattle.model.specs.declared.refusal.Refusal.{Refusal}
@@ -20,7 +20,6 @@ use Rattle.model.specs.Tables.{At, Absent, cut}
 use Rattle.filling.specs.Filled.{Filled}
 use Rattle.model.proofs.Tabled.{known_at, known_absent}
 use Rattle.library.specs.declared.filed.Filed.{Filed}
-use Rattle.library.specs.declared.filed.Taken.{Taken}
 use Rattle.library.specs.Adding.{admit_refusal, taking_refusal, behind, Indexed, TakenIn}
 
 -- ---- what is asked before the source is read

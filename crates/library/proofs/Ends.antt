@@ -1,7 +1,6 @@
 -- What the lists hold after any list of calls.
-use Rattle.std.proofs.Common.{◌≡◌, ℕ, ◌-◌, ◌≤◌, min, true, List, [], ◌∷◌, ◌++◌, length, take, drop, replicate, Ordering, sym, refl, ap, ◌∙◌, subst, ap₂, append-nil, arith}
-use Rattle.std.specs.List.{AllByRecursion}
-use Rattle.std.proofs.lemmas.List.{take-append-drop, length-take-le, length-append, length-replicate, take_at, drop_at, take_all, drop_all, take-append-le, length-take}
+use Rattle.std.proofs.Common.{◌≡◌, ℕ, ◌-◌, ◌≤◌, min, List, [], ◌++◌, length, take, drop, replicate, Ordering, sym, refl, ap, ◌∙◌, subst, ap₂, append-nil, arith}
+use Rattle.std.proofs.lemmas.List.{take-append-drop, length-take-le, length-replicate, drop_at, drop_all, take-append-le, length-take}
 use Rattle.order.specs.Total.{TotalOrder}
 use Rattle.order.specs.Listed.{In, ListsExactly}
 use Rattle.order.proofs.Joins.{in_joined, joined_in}
@@ -12,18 +11,17 @@ use Rattle.runs.specs.Passages.{Scheme, scheme}
 use Rattle.model.specs.declared.fingerprint.Fingerprint.{Fingerprint}
 use Rattle.model.specs.Files.{Files, held_tokens}
 use Rattle.model.specs.Prints.{by_fields, file_prints, all_prints, print_count, index_of}
-use Rattle.model.specs.Tables.{extent}
-use Rattle.model.specs.Calls.{Setting, Asked, Outcome, padded, held_after, outcomes, quiet}
+use Rattle.model.specs.Calls.{Setting, Asked, Outcome, padded, held_after, outcomes}
 use Rattle.model.proofs.Tabled.{held_cut}
 use Rattle.indexing.proofs.Index.{index_exactly}
 use Rattle.indexing.proofs.Counts.{index_count}
-use Rattle.promises.specs.Promises.{Answered, Promised}
+use Rattle.promises.specs.Promises.{Answered}
 use Rattle.promises.proofs.Pairing.{print_at, prints_in, in_prints}
 use Rattle.promises.proofs.Promising.{promised}
 use Rattle.promises.proofs.Telling.{answered}
 use Rattle.library.specs.declared.store.Store.{Store}
-use Rattle.library.specs.Stores.{Shape, Sound, Same, Kept, Steps, live, files, setting}
-use Rattle.library.specs.Running.{setting_over, IsPrint, IndexHolds, TokensHold, Ran}
+use Rattle.library.specs.Stores.{Shape, Sound, Steps, live, files, setting}
+use Rattle.library.specs.Running.{setting_over, IsPrint, Ran}
 
 -- ---- a fingerprint of the held files is a chosen place of one of them with its value
 

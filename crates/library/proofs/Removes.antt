@@ -1,8 +1,7 @@
 -- A file taken out of a store.
-use Rattle.std.proofs.Common.{◌≡◌, ℕ, ◌+◌, ◌-◌, ◌<◌, ◌≤◌, Bool, true, false, cond, not, eqb, List, [], ◌∷◌, ◌++◌, length, get_or, take, drop, replicate, Ok, Err, filter, Ordering, sym, refl, ap, ◌∙◌, ap₂, ⊎_elim, append_assoc, arith}
+use Rattle.std.proofs.Common.{◌≡◌, ℕ, ◌+◌, ◌-◌, ◌<◌, ◌≤◌, true, false, not, eqb, List, ◌++◌, length, get_or, take, drop, replicate, Ok, Err, Ordering, sym, refl, ap, ◌∙◌, ap₂, append_assoc, arith}
 use borrow.Author.Tests.{both_ways}
-use Rattle.std.proofs.lemmas.Bool.{cases_Bool, or_parts}
-use Rattle.std.proofs.lemmas.List.{replicate-append-replicate, take_at, drop_at, take-take, drop-drop, drop-take, length-append, length-take, length-take-le, length-drop, length-replicate, take-append-drop}
+use Rattle.std.proofs.lemmas.List.{replicate-append-replicate, take_at, drop_at, take-take, drop-drop, drop-take, length-append, length-take, length-take-le, length-drop}
 use Rattle.tokens.specs.declared.token.Token.{Token}
 use Rattle.runs.specs.Shares.{unused}
 use Rattle.model.specs.declared.table.Entry.{Entry}
@@ -12,14 +11,14 @@ use Rattle.runs.specs.Passages.{Scheme, scheme}
 use Rattle.model.specs.declared.refusal.Reason.TheVariants.{RemoveUnheld}
 use Rattle.model.specs.Refusals.{plain}
 use Rattle.model.specs.Calls.{remove, removed}
-use Rattle.model.specs.Files.{File, Files, Distinct, without, known}
+use Rattle.model.specs.Files.{Distinct, without, known}
 use Rattle.model.specs.Tables.{At, Absent, cut, extent, no_entry}
 use Rattle.model.proofs.Held.{without_none, distinct_kept}
 use Rattle.model.proofs.Tabled.{extent_within, known_at, known_absent}
 use Rattle.filling.proofs.Surgery.{extent_removed, cut_removed, without_at}
 use Rattle.indexing.proofs.Index.{index_less}
 use Rattle.library.specs.declared.store.Store.{Store}
-use Rattle.library.specs.Stores.{Shape, Sound, Same, Kept, Told, Step, live, files, setting}
+use Rattle.library.specs.Stores.{Shape, Sound, Step, live, files}
 use Rattle.library.specs.Removal.{TakenOut}
 use Rattle.library.proofs.Stays.{live_count, stays}
 

@@ -1,8 +1,8 @@
 -- What a Report answers.
-use Rattle.std.proofs.Common.{◌≡◌, ℕ, List, length, take, Ordering, sym, refl, ap, ◌∙◌}
+use Rattle.std.proofs.Common.{◌≡◌, ℕ, List, take, Ordering, refl, ap, ◌∙◌}
 use Rattle.order.specs.Total.{TotalOrder}
 use Rattle.order.specs.Listed.{Rising}
-use Rattle.runs.specs.Passages.{Scheme, scheme}
+use Rattle.runs.specs.Passages.{scheme}
 use Rattle.model.specs.Files.{known}
 use Rattle.model.specs.Indexes.{index_pairs}
 use Rattle.model.specs.Prints.{by_fields}

@@ -1,13 +1,11 @@
 -- A list of calls, turn by turn.
-use Rattle.std.proofs.Common.{◌≡◌, ℕ, true, List, [], ◌∷◌, ◌++◌, map, length, Ordering, sym, refl, ap, ◌∙◌, subst, ap₂, append_assoc, append-nil}
+use Rattle.std.proofs.Common.{◌≡◌, ℕ, true, List, [], ◌∷◌, ◌++◌, map, Ordering, sym, refl, ◌∙◌, append_assoc, append-nil}
 use Rattle.std.specs.List.{AllByRecursion}
 use Rattle.std.proofs.lemmas.List.{map_push}
-use Rattle.runs.specs.Passages.{scheme}
 use Rattle.model.specs.declared.calls.Answer.{Answer}
-use Rattle.model.specs.Files.{Files}
-use Rattle.model.specs.Calls.{Setting, Asked, Outcome, answer, after, held_after, outcomes, quiet, shown}
+use Rattle.model.specs.Calls.{Asked, Outcome, answer, after, held_after, outcomes, quiet, shown}
 use Rattle.library.specs.declared.store.Store.{Store}
-use Rattle.library.specs.Stores.{Sound, Same, Kept, Told, Step, AllTold, Steps, files, setting}
+use Rattle.library.specs.Stores.{Sound, Same, Kept, Step, Steps, files, setting}
 use Rattle.library.proofs.Stays.{kept_self, same_self}
 
 module _ {H V : Type 0} where

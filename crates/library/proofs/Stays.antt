@@ -1,15 +1,15 @@
 -- Calls that leave a store as it is.
-use Rattle.std.proofs.Common.{◌≡◌, ℕ, ◌+◌, ◌-◌, ◌<◌, ◌≤◌, true, false, leb, List, ◌++◌, map, length, take, drop, replicate, Ok, Err, Ordering, sym, refl, ap, ◌∙◌, arith, le-leb}
+use Rattle.std.proofs.Common.{◌≡◌, ℕ, ◌-◌, ◌<◌, ◌≤◌, true, false, leb, List, ◌++◌, map, length, drop, replicate, Ok, Err, Ordering, sym, refl, ap, ◌∙◌, arith, le-leb}
 use borrow.Author.Tests.{lt-leb}
 use Rattle.std.proofs.lemmas.List.{length-take-le, drop-replicate, length-map}
 use Rattle.model.specs.declared.refusal.Reason.TheVariants.{HeldShort}
 use Rattle.model.specs.declared.table.Entry.{Entry}
-use Rattle.model.specs.Files.{File, Files}
+use Rattle.model.specs.Files.{File}
 use Rattle.model.specs.Refusals.{plain}
 use Rattle.model.specs.Calls.{Asked, Outcome, held, listed, answer, after, padded, numbers}
 use Rattle.model.proofs.Tabled.{length_cut, numbers_cut}
 use Rattle.library.specs.declared.store.Store.{Store}
-use Rattle.library.specs.Stores.{Shape, Sound, Same, Kept, Told, Step, live, files, setting}
+use Rattle.library.specs.Stores.{Shape, Sound, Same, Kept, Step, live, files, setting}
 
 module _ {H V : Type 0} where
   pub kept_self : (s : Store H V) → Kept s s

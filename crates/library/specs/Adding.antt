@@ -12,7 +12,7 @@ use Rattle.model.specs.declared.refusal.Refusal.{Refusal}
 use Rattle.model.specs.Files.{Files, known}
 use Rattle.model.specs.Prints.{by_fields, filed}
 use Rattle.model.specs.Refusals.{reason_number, plain}
-use Rattle.model.specs.Calls.{most_files, ending_refusal, unless}
+use Rattle.model.specs.Calls.{most_files, ending_refusal}
 use Rattle.library.specs.declared.filed.Filed.{Filed}
 use Rattle.library.specs.declared.filed.Taken.{Taken}
 

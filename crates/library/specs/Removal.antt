@@ -1,5 +1,5 @@
 -- A file taken out of a store, list by list. Assumes nothing.
-use Rattle.std.specs.Prelude.{◌≡◌, ℕ, ◌+◌, ◌-◌, ◌++◌, length, take, drop, replicate, nat_eq}
+use Rattle.std.specs.Prelude.{◌≡◌, ℕ, ◌+◌, ◌-◌, ◌++◌, take, drop, replicate, nat_eq}
 use Rattle.std.specs.declared.cmp.Ordering.{Ordering}
 use Rattle.ordered.specs.Edited.{Thinned}
 use Rattle.runs.specs.Shares.{unused}

@@ -5,7 +5,7 @@ use Rattle.std.specs.List.{AllByRecursion}
 use Rattle.tokens.specs.declared.token.Token.{Token}
 use Rattle.tokens.specs.Tokens.{limit}
 use Rattle.runs.specs.Shares.{unused}
-use Rattle.runs.specs.Passages.{Scheme, scheme}
+use Rattle.runs.specs.Passages.{scheme}
 use Rattle.model.specs.declared.fingerprint.Fingerprint.{Fingerprint}
 use Rattle.model.specs.declared.table.Entry.{Entry}
 use Rattle.model.specs.Files.{Files, Distinct}

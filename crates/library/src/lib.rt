@@ -1,5 +1,6 @@
 // A library of files: it holds them as tokens with an index of their fingerprints, and reports the passages that they share.
 #![tactic(auto)]
+
 mod adding;
 pub mod calls;
 mod filed;

@@ -1,4 +1,4 @@
-use Rattle.std.proofs.Common.{◌≡◌, length, sym, ◌∙◌, arith}
+use Rattle.std.proofs.Common.{arith}
 use Rattle.library.proofs.Adds.{indexed}
 use Rattle.library.proofs.adding.index_file.Goals as goal
 

@@ -1,10 +1,5 @@
-use Rattle.std.proofs.Common.{◌≡◌, ◌+◌, ◌-◌, ◌≤◌, List, ◌++◌, length, take, drop, sym, refl, ap, ◌∙◌, subst, arith}
+use Rattle.std.proofs.Common.{arith}
 use Rattle.std.proofs.lemmas.Result.{err_from_is_err_and}
-use Rattle.tokens.specs.declared.token.Token.{Token}
-use Rattle.prints.specs.Grams.{Coded}
-use Rattle.prints.specs.Walk.{winnowed}
-use Rattle.runs.specs.Passages.{codes}
-use Rattle.library.specs.Adding.{Indexed}
 use Rattle.library.proofs.Adds.{not_read, slice_is, not_indexed, all_taken, read_few}
 use Rattle.library.proofs.adding.take_in.Goals as goal
 

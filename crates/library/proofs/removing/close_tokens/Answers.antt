@@ -1,5 +1,4 @@
-use Rattle.std.proofs.Common.{◌≡◌, ℕ, ◌-◌, List, ◌++◌, length, take, drop, replicate, sym, refl, ap, ◌∙◌, arith}
-use Rattle.tokens.specs.declared.token.Token.{Token}
+use Rattle.std.proofs.Common.{◌≡◌, ℕ, ◌-◌, ◌++◌, length, take, drop, replicate, ap, ◌∙◌, arith}
 use Rattle.runs.specs.Shares.{unused}
 use Rattle.library.proofs.Removes.{closed}
 use Rattle.library.proofs.removing.close_tokens.Goals as goal

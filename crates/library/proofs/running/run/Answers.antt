@@ -1,4 +1,4 @@
-use Rattle.std.proofs.Common.{◌≡◌, ℕ, ◌-◌, min, List, ◌++◌, length, take, drop, sym, refl, ap, ◌∙◌, arith}
+use Rattle.std.proofs.Common.{◌≡◌, ◌-◌, min, length, arith}
 use Rattle.library.proofs.Ends.{widened}
 use Rattle.library.proofs.running.run.Goals as goal
 

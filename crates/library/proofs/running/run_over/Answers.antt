@@ -1,4 +1,4 @@
-use Rattle.std.proofs.Common.{◌≡◌, length, sym, refl, ap, ◌∙◌, rules}
+use Rattle.std.proofs.Common.{refl, rules}
 use Rattle.library.proofs.Ends.{ran_over}
 use Rattle.library.proofs.running.run_over.Goals as goal
 

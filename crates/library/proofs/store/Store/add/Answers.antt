@@ -1,11 +1,10 @@
-use Rattle.std.proofs.Common.{◌≡◌, ◌+◌, ◌-◌, ◌<◌, ◌≤◌, true, false, length, Some, None, sym, refl, ap, ◌∙◌, subst, arith}
+use Rattle.std.proofs.Common.{◌+◌, ◌-◌, false, length, sym, refl, ◌∙◌, arith}
 use borrow.Author.Tests.{both_ways}
 use Rattle.std.proofs.lemmas.Result.{err_from_is_err_and}
 use Rattle.library.specs.Stores.{files, Kept}
-use Rattle.library.specs.Adding.{admit_refusal}
-use Rattle.library.proofs.Stays.{file_count, kept_self}
+use Rattle.library.proofs.Stays.{file_count}
 use Rattle.library.proofs.Adds.{unless_err, unless_ok}
-use Rattle.library.proofs.Added.{refused_early, few_files, work_enough, took_few, shape_like, not_early, refused_late, shape_more, granted}
+use Rattle.library.proofs.Added.{refused_early, few_files, took_few, shape_like, not_early, refused_late, shape_more, granted}
 use Rattle.library.proofs.store.Store.add.Goals as goal
 
 pub returns-in_err-admits : goal.returns-in_err-admits

@@ -1,6 +1,5 @@
-use Rattle.std.proofs.Common.{◌≡◌, ℕ, ◌-◌, true, false, take, is_some, sym, refl, ap, ◌∙◌, arith, MatchOption}
+use Rattle.std.proofs.Common.{◌≡◌, ◌-◌, take, sym, refl, ◌∙◌, arith, MatchOption}
 use Rattle.model.specs.Tables.{At, Absent}
-use Rattle.model.specs.Files.{known}
 use Rattle.library.specs.Stores.{files}
 use Rattle.library.proofs.Stays.{file_count}
 use Rattle.library.proofs.Adds.{known_found, number_held, too_many, work_short, admitted}

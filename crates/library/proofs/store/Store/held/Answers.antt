@@ -1,4 +1,4 @@
-use Rattle.std.proofs.Common.{◌≡◌, ℕ, ◌-◌, List, ◌++◌, map, length, take, drop, replicate, sym, refl, ap, ◌∙◌, arith}
+use Rattle.std.proofs.Common.{◌≡◌, ◌-◌, ◌++◌, map, length, take, drop, replicate, arith}
 use Rattle.model.specs.declared.table.Entry.{Entry}
 use Rattle.library.proofs.Stays.{held_short, held_all}
 use Rattle.library.proofs.store.Store.held.Goals as goal

@@ -1,7 +1,7 @@
-use Rattle.std.proofs.Common.{◌≡◌, ◌+◌, ◌≤◌, List, [], ◌∷◌, ◌++◌, map, vec_items, vec_len, vec_capacity, sym, refl, ap, ◌∙◌, arith}
-use Rattle.std.specs.Vec.Iter.{into_iter_items, into_iter_len}
+use Rattle.std.proofs.Common.{◌≡◌, [], ◌∷◌, sym, ◌∙◌, arith}
+use Rattle.std.specs.Vec.Iter.{into_iter_items}
 use Rattle.std.proofs.lemmas.List.{nil_from_length}
-use Rattle.model.specs.Calls.{asked, shown}
+use Rattle.model.specs.Calls.{asked}
 use Rattle.library.proofs.Runs.{turn_of, end_of}
 use Rattle.library.proofs.store.Store.make_all.Goals as goal
 
@@ -21,5 +21,5 @@ pub returns : goal.returns
 returns g c =
     let it = c.loop-call.call-iterator in
     let none : into_iter_items it ≡ [] = nil_from_length _ (sym it.rest.ok.0 ∙ c.in-None.ensures.steps.0) in
-    let came = c.into-iter-call-iterator.ensures.into-iter-gives.0 in
+    let came = c.into_iter-call-iterator.ensures.into_iter_gives.0 in
     record { tokens = c.loop-call.invariant.1.kept.tokens; index = c.loop-call.invariant.1.kept.index; shape = c.loop-call.invariant.0; steps = rw (← came) (end_of g.H.GramHash.value g.H.Value.Order.cmp (asked g.S.Source.tokens g.S.Source.ending) c.args.self.now _ c.loop-call.self _ _ none c.loop-call.invariant.1) }

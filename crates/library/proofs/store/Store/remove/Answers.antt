@@ -1,4 +1,4 @@
-use Rattle.std.proofs.Common.{◌≡◌, ℕ, ◌-◌, take, arith}
+use Rattle.std.proofs.Common.{◌≡◌, ◌-◌, take, arith}
 use Rattle.model.specs.Tables.{At, Absent}
 use Rattle.library.proofs.Removes.{shape_less, removed_step, unremoved_step}
 use Rattle.library.proofs.store.Store.remove.Goals as goal

@@ -1,4 +1,4 @@
-use Rattle.std.proofs.Common.{◌≡◌, ℕ, ◌-◌, length, take, sym, refl, ap, ◌∙◌, arith}
+use Rattle.std.proofs.Common.{◌≡◌, ◌-◌, length, take, arith}
 use Rattle.order.specs.Listed.{Rising}
 use Rattle.model.specs.Files.{known}
 use Rattle.model.specs.Indexes.{index_pairs}
