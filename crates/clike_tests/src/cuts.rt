@@ -168,9 +168,10 @@ fn all_lexemes(rt: HostRuntime) -> Result<(), Fail> {
     }
     assert_eq!(rt;
         kinds.as_slice(),
-        &[
+        [
             KEYWORD, COMMENT, NAME, MARK, MARK, QUOTED, MARK, BLANK, COMMENT,
         ]
+        .as_slice()
     );
     Ok(())
 }
