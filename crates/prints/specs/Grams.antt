@@ -1,6 +1,6 @@
 -- Codes, grams of them, and what a hash must do when a gram moves on by one code. Assumes nothing.
 use Rattle.std.specs.Prelude.{◌≡◌, ℕ, ◌≤◌, List, [], ◌∷◌, ◌++◌, length}
-use Rattle.std.specs.List.{AllByRecursion as All}
+use Rattle.std.specs.List.{AllByRecursion}
 
 -- a code that a token can have
 abbrev pub Code : ℕ → Type 0
@@ -8,7 +8,7 @@ Code c = (1 ≤ c) × (c ≤ 1023)
 
 -- every one is a code
 abbrev pub Coded : List ℕ → Type 0
-Coded cs = All Code cs
+Coded cs = AllByRecursion Code cs
 
 -- a list that hashes speak of: 1 to 64 codes
 pub record Gram (cs : List ℕ) : Type 0 where

@@ -1,5 +1,6 @@
 // Shows hash values of short grams, and the fingerprints of a short text.
 #![tactic(auto)]
+
 use prints::cyclic::CyclicShift;
 use prints::hash::GramHash;
 use prints::list::{Unfit, fingerprints};
@@ -51,7 +52,7 @@ fn listing(rt: &HostRuntime) -> anyhow::Result<()> {
             }
             Ok(())
         }
-        Err(unfit) => Err(reason(unfit).into()),
+        Err(unfit) => Err(anyhow::anyhow!(reason(unfit))),
     }
 }
 
