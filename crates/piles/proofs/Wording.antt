@@ -1,18 +1,11 @@
 -- Words, and the numbers that digits write.
-use Rattle.std.proofs.Common.{◌≡◌, ℕ, ◌+◌, ◌-◌, ◌*◌, ◌^◌, ◌<◌, ◌≤◌, Bool, true, false, cond, ◌&&◌, leb, List, length, get_or, take, Some, None, Decides, sym, refl, ap, ◌∙◌, ⊎_elim, arith, pow-add}
+use Rattle.std.proofs.Common.{◌≡◌, ℕ, ◌+◌, ◌-◌, ◌*◌, ◌^◌, ◌<◌, ◌≤◌, true, false, leb, List, length, get_or, take, Some, None, Decides, sym, refl, ◌∙◌, ⊎_elim, pow-add}
 use Rattle.std.specs.List.{AllByRecursion}
-use Rattle.std.specs.Str.{bytes_eq}
 use Rattle.std.proofs.ByRecursion.{All-more, All-get_or, Decides-by_and}
-use Rattle.std.proofs.lemmas.Slice.Eq.{bytes_eq-Decides}
-use Rattle.std.proofs.lemmas.List.{take_all}
 use Rattle.std.proofs.lemmas.List.Sums.{fold_more}
 use Rattle.std.proofs.lemmas.Bool.{false≢true, cases_Bool, cond-true, cond-false, and_from, and_left, and_right, and_parts, le-leb, lt-leb, leb-true}
-use Rattle.std.proofs.lemmas.Bool.Decides.{same_from_decides}
 use Rattle.tokens.specs.Bytes.{is_digit, between}
 use Rattle.piles.specs.Words.{all_digits, decimal_value, class_of}
-
-pub word_is : (w p : List ℕ) (r : Bool) → Decides r (w ≡ p) → bytes_eq w p ≡ r
-word_is w p r h = same_from_decides (bytes_eq w p) r (bytes_eq-Decides w p) h
 
 digits_decide : (ds : List ℕ) → Decides (all_digits ds) (AllByRecursion (λ d. is_digit d ≡ true) ds)
 digits_decide ds = Decides-by_and is_digit (λ d. is_digit d ≡ true) all_digits (λ d. (λ e. e, λ e. e)) refl (λ _ _. refl) ds
