@@ -2,11 +2,13 @@
 //     listing FILE READER LAYER..
 // as `listing report.txt prose drop=1 case names`.
 #![tactic(auto)]
+
 use piles::lines::listed;
 use piles::pile::Layer;
 use piles::words::{Unread, layer_of, reader_of};
 use std::alloc::{AllocError, AllocFailed};
 use std::io::Write;
+use std::process::ExitCode;
 use std::{env, fmt, fs, io};
 
 // Why nothing was listed.
@@ -64,12 +66,14 @@ impl From<io::Error> for Stop {
     }
 }
 
-fn main(rt: HostRuntime) -> Result<(), Stop> {
-    let result = run(&rt);
-    if let Err(stop) = &result {
-        let _ = eprintln!(rt; "listing: {stop}");
+fn main(rt: HostRuntime) -> ExitCode {
+    match run(&rt) {
+        Ok(()) => ExitCode::SUCCESS,
+        Err(stop) => {
+            let _ = eprintln!(rt; "listing: {stop}");
+            ExitCode::FAILURE
+        }
     }
-    result
 }
 
 // Writes nothing before all is read and worked out.

@@ -1,11 +1,11 @@
 -- Small cases worked out by hand, as a check of the definitions.
-use Rattle.std.specs.Prelude.{◌≡◌, ℕ, List, [], ◌∷◌, None, codes, Option}
+use Rattle.std.specs.Prelude.{◌≡◌, ℕ, [], ◌∷◌, None, codes}
 use Rattle.tokens.specs.declared.token.Class.{Class}
 use Rattle.tokens.specs.declared.token.Class.TheVariants.{NameFirst}
 use Rattle.tokens.specs.declared.token.Token.{Token}
 use Rattle.piles.specs.declared.pile.Reader.TheVariants.{Prose}
 use Rattle.piles.specs.declared.pile.Layer.TheVariants.{Case, Drop}
-use Rattle.piles.specs.Piles.{Stream, read_as, piled}
+use Rattle.piles.specs.Piles.{read_as, piled}
 use Rattle.clike.specs.Worked.{WorkedCases as ClikeCases}
 use Rattle.prints.specs.Worked.{Worked as PrintCases}
 

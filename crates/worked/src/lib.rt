@@ -1,5 +1,6 @@
 // The finite check of the definitions, and tests of the edges.
 #![tactic(auto)]
+
 ghost use Rattle.worked.specs.Worked.{Worked};
 
 #[cfg(test)]
