@@ -1,5 +1,5 @@
 -- Outcomes that are answered one by one are the defined ones.
-use Rattle.std.proofs.Common.{◌≡◌, ℕ, suc, ◌≤◌, Bool, false, cond, ◌||◌, ltb, List, [], ◌∷◌, ◌++◌, length, Some, Option, sym, refl, ap, ◌∙◌, subst, ap₂, arith, le-ltb}
+use Rattle.std.proofs.Common.{◌≡◌, ℕ, ◌≤◌, Bool, false, cond, ◌||◌, ltb, List, [], ◌∷◌, ◌++◌, length, Some, Option, sym, refl, ap, ◌∙◌, ap₂, arith, le-ltb}
 use Rattle.std.specs.List.{slice_get}
 use Rattle.prints.specs.Hashes.{polynomial}
 use Rattle.model.specs.declared.refusal.Reason.TheVariants.{FileUnread}

@@ -1,7 +1,6 @@
-use Rattle.std.proofs.Common.{◌≡◌, ℕ, ◌-◌, min, List, [], ◌++◌, length, take, vec_items, sym, refl, ap, ◌∙◌, ap₂, arith}
+use Rattle.std.proofs.Common.{◌≡◌, ◌-◌, ◌++◌, take, vec_items, refl, ap, ◌∙◌, ap₂, arith}
 use Rattle.std.specs.List.{flat_map}
 use Rattle.std.proofs.lemmas.Slice.{pushed}
-use Rattle.model.specs.declared.passage.Passage.{Passage}
 use Rattle.pages.specs.Pages.{counts_line, passage_line}
 use Rattle.pages.proofs.Fronts.{take_capped}
 use Rattle.pages.proofs.answered.report_page.Goals as goal
