@@ -4,3 +4,4 @@
 pub mod answered;
 pub mod comparing;
 pub mod whole;
+pub mod worked;
