@@ -1,8 +1,10 @@
 // Shows the passages that the files left.txt and right.txt of the working directory share.
 #![tactic(auto)]
+
 use pages::whole::page;
 use std::fs;
 use std::io::Write;
+use std::process::ExitCode;
 
 // What went wrong outside the page, which is not printed then.
 enum Stop {
@@ -10,10 +12,9 @@ enum Stop {
     Output,
 }
 
-fn main(rt: HostRuntime) -> Result<(), Stop> {
-    let result = run(&rt);
-    match &result {
-        Ok(()) => {}
+fn main(rt: HostRuntime) -> ExitCode {
+    match run(&rt) {
+        Ok(()) => return ExitCode::SUCCESS,
         Err(Stop::Memory) => {
             let _ = eprintln!(rt; "passages: there is not enough memory");
         }
@@ -21,7 +22,7 @@ fn main(rt: HostRuntime) -> Result<(), Stop> {
             let _ = eprintln!(rt; "passages: the page cannot be written");
         }
     }
-    result
+    ExitCode::FAILURE
 }
 
 fn run(rt: &HostRuntime) -> Result<(), Stop> {
