@@ -24,11 +24,11 @@ module _ {V : Type 0} (k : ℕ) (fs : Files) (ps qs : List (Fingerprint V × Fin
   same_differing = reordered_length (filter (λ p. not (alike k fs p)) ps) (filter (λ p. not (alike k fs p)) qs) (reordered_kept (λ p. not (alike k fs p)) ps qs r)
 
   -- the outcome does not depend on the order of the pairs
-  pub same_outcome : (is_held_lem : Bool) (room : ℕ) → pairs_outcome is_held_lem k fs ps room ≡ pairs_outcome is_held_lem k fs qs room
-  same_outcome is_held_lem room =
-      ap (λ (l : List Passage). report_outcome is_held_lem l (length ps) (differing k fs ps) room) same_passages
-      ∙ ap (λ (c : ℕ). report_outcome is_held_lem (gathered by_eight (marked k fs qs)) c (differing k fs ps) room) (reordered_length ps qs r)
-      ∙ ap (λ (c : ℕ). report_outcome is_held_lem (gathered by_eight (marked k fs qs)) (length qs) c room) same_differing
+  pub same_outcome : (is_held : Bool) (room : ℕ) → pairs_outcome is_held k fs ps room ≡ pairs_outcome is_held k fs qs room
+  same_outcome is_held room =
+      ap (λ (l : List Passage). report_outcome is_held l (length ps) (differing k fs ps) room) same_passages
+      ∙ ap (λ (c : ℕ). report_outcome is_held (gathered by_eight (marked k fs qs)) c (differing k fs ps) room) (reordered_length ps qs r)
+      ∙ ap (λ (c : ℕ). report_outcome is_held (gathered by_eight (marked k fs qs)) (length qs) c room) same_differing
 
 module _ {V : Type 0} (st : Setting V) (o : TotalOrder st.scheme.cmp) where
   pub report_by_index : (fs : Files) → Distinct fs → (n room : ℕ) → pairs_outcome (known n fs) st.scheme.k fs (index_pairs st.scheme.cmp n (index_of st.scheme fs)) room ≡ answer st fs (report n room)

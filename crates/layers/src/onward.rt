@@ -1,5 +1,5 @@
-// A source with the byte place that it has reached, for layers that read a token ahead: an invariant of
-// a struct cannot speak of the tokens of a type parameter, but of this place it can.
+// A source with the byte place that it has reached, for layers that read a token ahead: what they owe rests
+// on this place alone, and on no invariant that would speak of the tokens of a type parameter.
 ghost use Rattle.std.specs.Prelude.{◌≡◌};
 ghost use Rattle.layers.specs.Onwards.{onward, reached_by};
 ghost use Rattle.tokens.specs.Tokens.{PlacedFrom, first, rest};

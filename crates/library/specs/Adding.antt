@@ -1,5 +1,5 @@
 -- A file taken into a store, part by part. Assumes nothing.
-use Rattle.std.specs.Prelude.{◌≡◌, ℕ, ◌+◌, ◌-◌, ◌≤◌, Bool, true, false, cond, ◌&&◌, ltb, List, ◌++◌, map, length, take, drop, Some, None, Ok, Err, Option, Result, ◌==◌, nat_le, nat_lt}
+use Rattle.std.specs.Prelude.{◌≡◌, ℕ, ◌+◌, ◌-◌, ◌≤◌, Bool, true, false, cond, ◌&&◌, List, ◌++◌, map, length, take, drop, Some, None, Ok, Err, Option, Result, ◌==◌, nat_le, nat_lt}
 use Rattle.std.specs.declared.cmp.Ordering.{Ordering}
 use Rattle.ordered.specs.Gathered.{AllIn}
 use Rattle.tokens.specs.declared.token.Token.{Token}
@@ -33,8 +33,8 @@ behind index n number ps = take n index ++ (map (filed number) ps ++ drop (lengt
 
 -- the chosen places ps of file `number` are put into an index of which n entries are used, or there is no room for them and nothing is changed
 pub record Indexed {V : Type 0} (cmp : V → V → Ordering) (ps : List (Placed V)) (number n : ℕ) (before after : List (Fingerprint V)) (r : Result Filed Refusal) : Type 0 where
-  pub refuses : ltb (length before - n) (length ps) ≡ true → (r ≡ Err (plain IndexFull)) × (after ≡ before)
-  pub grants : ltb (length before - n) (length ps) ≡ false →
+  pub refuses : nat_lt (length before - n) (length ps) ≡ true → (r ≡ Err (plain IndexFull)) × (after ≡ before)
+  pub grants : nat_lt (length before - n) (length ps) ≡ false →
       (x : Filed) × (r ≡ Ok x) × (x.places ≡ length ps) × AllIn (by_fields cmp) (behind before n number ps) after n (length ps) x.used
   pub long : length after ≡ length before
 

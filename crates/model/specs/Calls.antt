@@ -105,15 +105,15 @@ padded xs n zero = xs ++ replicate (n - length xs) zero
 
 -- the outcome of a Report with these passages and counts into a list of so many entries
 abbrev pub report_outcome : Bool → List Passage → ℕ → ℕ → ℕ → Outcome
-report_outcome is_held_lem ps pairs differ room =
-    cond is_held_lem
+report_outcome is_held ps pairs differ room =
+    cond is_held
     (cond (nat_le (length ps) room) (reported (Ok (record { passages = length ps; pairs = pairs; differing = differ })) (padded ps room no_passage))
     (reported (Err (plain ReportFull)) (replicate room no_passage)))
     (reported (Err (plain ReportUnheld)) (replicate room no_passage))
 
 -- the same from the pairs of the file with the others
 abbrev pub pairs_outcome : {V : Type 0} → Bool → ℕ → Files → List (Fingerprint V × Fingerprint V) → ℕ → Outcome
-pairs_outcome is_held_lem k fs ps room = report_outcome is_held_lem (gathered by_eight (marked k fs ps)) (length ps) (differing k fs ps) room
+pairs_outcome is_held k fs ps room = report_outcome is_held (gathered by_eight (marked k fs ps)) (length ps) (differing k fs ps) room
 
 module _ {V : Type 0} (st : Setting V) where
   abbrev pub answer : Files → Asked → Outcome

@@ -1,5 +1,5 @@
 -- The page that shows what two files share. Assumes nothing.
-use Rattle.std.specs.Prelude.{ℕ, Bool, cond, ◌||◌, List, [], ◌∷◌, ◌++◌, length, take, Some, None, Ok, Err, Option, nat_lt}
+use Rattle.std.specs.Prelude.{ℕ, Bool, true, cond, ◌||◌, List, [], ◌∷◌, ◌++◌, length, take, Some, None, Ok, Err, Option, nat_lt}
 use Rattle.std.specs.List.{flat_map}
 use Rattle.tokens.specs.declared.token.Fault.{Fault}
 use Rattle.tokens.specs.declared.token.Token.{Token}
@@ -65,7 +65,7 @@ abbrev pub most_bytes : ℕ
 most_bytes = 2048
 
 abbrev pub unread : Option (List ℕ) → Bool
-unread None = mathlib.Core.Bool.true
+unread None = true
 unread (Some file) = nat_lt most_bytes (length file)
 
 abbrev pub bytes : Option (List ℕ) → List ℕ

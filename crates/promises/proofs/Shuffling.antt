@@ -118,12 +118,12 @@ module _ {V : Type 0} (st : Setting V) (o : TotalOrder st.scheme.cmp) (low : 1 �
 
   pub report_shuffled : (n room : ℕ) → answer st gs (report n room) ≡ answer st fs (report n room)
   report_shuffled n room =
-      let is_held_lem = known_shuffled fs gs s n in
+      let is_held = known_shuffled fs gs s n in
       ⊎_elim
       (λ (here : known n fs ≡ true).
       let ps = passages_shuffled n here in
       let all = length_pairs fs gs s S d n in
       let differ = differing_same fs gs s S d n in
-      λ i. report_outcome (is_held_lem i) (ps i) (all i) (differ i) room)
-      (λ (gone : known n fs ≡ false). cond-false (known n gs) _ _ (is_held_lem ∙ gone) ∙ sym (cond-false (known n fs) _ _ gone))
+      λ i. report_outcome (is_held i) (ps i) (all i) (differ i) room)
+      (λ (gone : known n fs ≡ false). cond-false (known n gs) _ _ (is_held ∙ gone) ∙ sym (cond-false (known n fs) _ _ gone))
       (cases_Bool (known n fs))
