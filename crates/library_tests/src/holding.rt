@@ -4,6 +4,7 @@ use library::library::Library;
 use prints::polynomial::Polynomial;
 use std::alloc::Global;
 use std::process::Abort;
+use std::test::Fail;
 use tokens::prose::Prose;
 
 // That of the files 1 to 64 all but one are held, and that file 1 shares its first two tokens with each other of them.

@@ -1,5 +1,6 @@
 // Tests of the library.
 #![tactic(auto)]
+
 #[cfg(test)]
 mod common;
 #[cfg(test)]

@@ -9,6 +9,7 @@ use prints::pair::Pair;
 use prints::polynomial::Polynomial;
 use std::alloc::{AllocError, Global};
 use std::process::Abort;
+use std::test::Fail;
 use tokens::collected::Collected;
 use tokens::prose::Prose;
 use tokens::source::Source;

@@ -6,6 +6,7 @@ use library::library::Library;
 use prints::polynomial::Polynomial;
 use std::alloc::Global;
 use std::process::Abort;
+use std::test::Fail;
 use tokens::prose::Prose;
 use tokens::source::Source;
 

@@ -5,6 +5,7 @@ use model::calls::{Answer, Call};
 use prints::polynomial::Polynomial;
 use std::alloc::{AllocError, Global};
 use std::process::Abort;
+use std::test::Fail;
 use tokens::prose::Prose;
 use tokens::token::Token;
 
