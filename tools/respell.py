@@ -1,7 +1,7 @@
 #!/usr/bin/env python3
 """Brings the names that this repository defines in specs/ and proofs/ to one spelling.
 
-    tools/respell.py        at the top of the repository
+    tools/respell.py        at the top of the repository; it was run once, right after the kit's port.py (docs/PORT.md)
 
 Words and lemmas in snake case, types and facts in camel case, a prime as an apostrophe.
 Names that a library defines, names of goals and of steps, and all of src/ outside of
