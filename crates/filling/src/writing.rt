@@ -22,7 +22,7 @@ pub fn count_prints<H: GramHash>(
     requires gram { (1 ≤ k) × (k ≤ 64) }
     requires window { (1 ≤ w) × (w ≤ length work.old) }
     requires coded { Coded (codes tokens.now) }
-    ensures { result ≡ length (winnowed H.GramHash.value H.Value.Order.cmp k w (codes tokens.now)) }
+    ensures { result ≡ length (winnowed H.GramHash.value H.Value.Ord.cmp k w (codes tokens.now)) }
 {
     Winnow::<H, TokenCodes<'_>>::new(TokenCodes { all: tokens }, k, w, work).count()
 }
@@ -39,10 +39,10 @@ pub fn write_prints<H: GramHash>(
     requires gram { (1 ≤ k) × (k ≤ 64) }
     requires window { (1 ≤ w) × (w ≤ length work.old) }
     requires coded { Coded (codes tokens.now) }
-    requires room { length (winnowed H.GramHash.value H.Value.Order.cmp k w (codes tokens.now)) ≤ length free.old }
+    requires room { length (winnowed H.GramHash.value H.Value.Ord.cmp k w (codes tokens.now)) ≤ length free.old }
     requires size { length tokens.now ≤ 1048576 }
-    ensures count { result ≡ length (winnowed H.GramHash.value H.Value.Order.cmp k w (codes tokens.now)) }
-    ensures after { free.new ≡ map (filed number) (winnowed H.GramHash.value H.Value.Order.cmp k w (codes tokens.now)) ++ drop (length (winnowed H.GramHash.value H.Value.Order.cmp k w (codes tokens.now))) free.old }
+    ensures count { result ≡ length (winnowed H.GramHash.value H.Value.Ord.cmp k w (codes tokens.now)) }
+    ensures after { free.new ≡ map (filed number) (winnowed H.GramHash.value H.Value.Ord.cmp k w (codes tokens.now)) ++ drop (length (winnowed H.GramHash.value H.Value.Ord.cmp k w (codes tokens.now))) free.old }
 {
     let mut walk = Winnow::<H, TokenCodes<'_>>::new(TokenCodes { all: tokens }, k, w, work);
     let mut n = 0;

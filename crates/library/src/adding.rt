@@ -38,7 +38,7 @@ fn index_file<H: GramHash>(
     requires coded { Coded (codes tokens.now) }
     requires size { length tokens.now ≤ 1048576 }
     requires within { used ≤ length index.old }
-    ensures { Indexed H.Value.Order.cmp (winnowed H.GramHash.value H.Value.Order.cmp k w (codes tokens.now)) number used index.old index.new result }
+    ensures { Indexed H.Value.Ord.cmp (winnowed H.GramHash.value H.Value.Ord.cmp k w (codes tokens.now)) number used index.old index.new result }
 {
     let places = count_prints::<H>(tokens, k, w, work);
     if index.len() - used < places {
@@ -66,7 +66,7 @@ fn take_in<H: GramHash, S: Source + Drop>(
     requires window { (1 ≤ w) × (w ≤ length work.old) }
     requires size { length tokens.old ≤ 1048576 }
     requires within { (used ≤ length tokens.old) × (prints ≤ length index.old) }
-    ensures { TakenIn H.Value.Order.cmp number (S.Source.tokens source) (S.Source.ending source) (winnowed H.GramHash.value H.Value.Order.cmp k w (codes (S.Source.tokens source))) used tokens.old tokens.new prints index.old index.new result }
+    ensures { TakenIn H.Value.Ord.cmp number (S.Source.tokens source) (S.Source.ending source) (winnowed H.GramHash.value H.Value.Ord.cmp k w (codes (S.Source.tokens source))) used tokens.old tokens.new prints index.old index.new result }
 {
     let len = fill(&mut tokens[used..], source)?;
     let filed = index_file::<H>(index, prints, number, &tokens[used..used + len], k, w, work)?;
@@ -106,7 +106,7 @@ impl<H: GramHash> Store<'_, '_, H> {
     ) -> Result<Added, Refusal>
         requires { Shape self.old }
         ensures shape { Shape self.new }
-        ensures step { Step H.GramHash.value H.Value.Order.cmp self.old self.new (add number (S.Source.tokens source) (S.Source.ending source) (length work.old)) (added result) }
+        ensures step { Step H.GramHash.value H.Value.Ord.cmp self.old self.new (add number (S.Source.tokens source) (S.Source.ending source) (length work.old)) (added result) }
         ensures work { WorkKept result work.old work.new }
     {
         let k = self.k;

@@ -33,7 +33,7 @@ impl<'a, 'b, H: GramHash> Library<'a, 'b, H> {
         tokens: &'a mut [Token],
         index: &'b mut [Fingerprint<H::Value>],
     ) -> Library<'a, 'b, H>
-        ensures { Opened H.GramHash.value H.Value.Order.cmp plan.k plan.t tokens.old index.old result.store }
+        ensures { Opened H.GramHash.value H.Value.Ord.cmp plan.k plan.t tokens.old index.old result.store }
     {
         let room = capped(tokens.len());
         let places = capped(index.len());
@@ -59,7 +59,7 @@ impl<'a, 'b, H: GramHash> Library<'a, 'b, H> {
         source: S,
         work: &mut [Placed<H::Value>],
     ) -> Result<Added, Refusal>
-        ensures step { Step H.GramHash.value H.Value.Order.cmp self.old.store self.new.store (add number (S.Source.tokens source) (S.Source.ending source) (length work.old)) (added result) }
+        ensures step { Step H.GramHash.value H.Value.Ord.cmp self.old.store self.new.store (add number (S.Source.tokens source) (S.Source.ending source) (length work.old)) (added result) }
         ensures work { WorkKept result work.old work.new }
     {
         self.store.add(number, source, work)
@@ -67,21 +67,21 @@ impl<'a, 'b, H: GramHash> Library<'a, 'b, H> {
 
     // Ends that a file is held.
     pub fn remove(&mut self, number: u16) -> Result<(), Refusal>
-        ensures { Step H.GramHash.value H.Value.Order.cmp self.old.store self.new.store (remove number) (removed result) }
+        ensures { Step H.GramHash.value H.Value.Ord.cmp self.old.store self.new.store (remove number) (removed result) }
     {
         self.store.remove(number)
     }
 
     // Writes the numbers of the held files into the list, in order of the Adds, and answers how many they are.
     pub fn held(&self, list: &mut [u16]) -> Result<usize, Refusal>
-        ensures { Step H.GramHash.value H.Value.Order.cmp self.now.store self.now.store (held (length list.old)) (listed result list.new) }
+        ensures { Step H.GramHash.value H.Value.Ord.cmp self.now.store self.now.store (held (length list.old)) (listed result list.new) }
     {
         self.store.held(list)
     }
 
     // Writes the passages of a held file with all others into the list, and counts its pairs.
     pub fn report(&self, number: u16, list: &mut [Passage]) -> Result<Reported, Refusal>
-        ensures { Step H.GramHash.value H.Value.Order.cmp self.now.store self.now.store (report number (length list.old)) (reported result list.new) }
+        ensures { Step H.GramHash.value H.Value.Ord.cmp self.now.store self.now.store (report number (length list.old)) (reported result list.new) }
     {
         self.store.report(number, list)
     }

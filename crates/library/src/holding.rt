@@ -11,7 +11,7 @@ use prints::hash::GramHash;
 impl<H: GramHash> Store<'_, '_, H> {
     pub fn held(&self, list: &mut [u16]) -> Result<usize, Refusal>
         requires { Shape self.now }
-        ensures { Step H.GramHash.value H.Value.Order.cmp self.now self.now (held (length list.old)) (listed result list.new) }
+        ensures { Step H.GramHash.value H.Value.Ord.cmp self.now self.now (held (length list.old)) (listed result list.new) }
     {
         zero_numbers(list);
         if list.len() < self.count {

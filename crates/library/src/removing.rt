@@ -28,7 +28,7 @@ impl<H: GramHash> Store<'_, '_, H> {
     fn take_out(&mut self, number: u16, spot: Spot)
         requires shape { Shape self.old }
         requires there { At number (live self.old) spot }
-        ensures { TakenOut H.Value.Order.cmp self.old self.new number spot }
+        ensures { TakenOut H.Value.Ord.cmp self.old self.new number spot }
     {
         let used = self.used;
         let count = self.count;
@@ -43,7 +43,7 @@ impl<H: GramHash> Store<'_, '_, H> {
     pub fn remove(&mut self, number: u16) -> Result<(), Refusal>
         requires { Shape self.old }
         ensures shape { Shape self.new }
-        ensures step { Step H.GramHash.value H.Value.Order.cmp self.old self.new (remove number) (removed result) }
+        ensures step { Step H.GramHash.value H.Value.Ord.cmp self.old self.new (remove number) (removed result) }
     {
         match find(&self.table[0..self.count], number) {
             None => Err(Refusal::plain(Reason::RemoveUnheld)),

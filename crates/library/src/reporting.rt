@@ -13,7 +13,7 @@ use prints::hash::GramHash;
 impl<H: GramHash> Store<'_, '_, H> {
     pub fn report(&self, number: u16, list: &mut [Passage]) -> Result<Reported, Refusal>
         requires { Shape self.now }
-        ensures { Step H.GramHash.value H.Value.Order.cmp self.now self.now (report number (length list.old)) (reported result list.new) }
+        ensures { Step H.GramHash.value H.Value.Ord.cmp self.now self.now (report number (length list.old)) (reported result list.new) }
     {
         let table = &self.table[0..self.count];
         let index = &self.index[0..self.prints];

@@ -21,7 +21,7 @@ impl<H: GramHash> Store<'_, '_, H> {
     fn make<S: Source + Drop>(&mut self, call: Call<S, H::Value>) -> Answer
         requires { Shape self.old }
         ensures shape { Shape self.new }
-        ensures step { Step H.GramHash.value H.Value.Order.cmp self.old self.new (asked S.Source.tokens S.Source.ending call) (shown result) }
+        ensures step { Step H.GramHash.value H.Value.Ord.cmp self.old self.new (asked S.Source.tokens S.Source.ending call) (shown result) }
     {
         match call {
             Call::Add {
@@ -53,7 +53,7 @@ impl<H: GramHash> Store<'_, '_, H> {
         ensures tokens { self.new.tokens.ghost_name ≡ self.old.tokens.ghost_name }
         ensures index { self.new.index.ghost_name ≡ self.old.index.ghost_name }
         ensures shape { Shape self.new }
-        ensures steps { Steps H.GramHash.value H.Value.Order.cmp self.old self.new (map (asked S.Source.tokens S.Source.ending) calls.items) (map shown answers.new.items) }
+        ensures steps { Steps H.GramHash.value H.Value.Ord.cmp self.old self.new (map (asked S.Source.tokens S.Source.ending) calls.items) (map shown answers.new.items) }
     {
         for call in calls {
             let answer = self.make(call);
@@ -73,7 +73,7 @@ fn run_over<H: GramHash, S: Source + Drop>(
     requires few { (length tokens.old ≤ 1048576) × (length index.old ≤ 1048576) }
     requires none { (answers.old.items ≡ []) × (vec_len answers.old ≡ 0) }
     requires room { vec_len calls ≤ vec_capacity answers.old }
-    ensures { Ran (setting_over H.GramHash.value H.Value.Order.cmp plan.k plan.t (length tokens.old) (length index.old)) (map (asked S.Source.tokens S.Source.ending) calls.items) (map shown answers.new.items) tokens.old tokens.new index.old index.new }
+    ensures { Ran (setting_over H.GramHash.value H.Value.Ord.cmp plan.k plan.t (length tokens.old) (length index.old)) (map (asked S.Source.tokens S.Source.ending) calls.items) (map shown answers.new.items) tokens.old tokens.new index.old index.new }
 {
     wipe(tokens, 0);
     let mut store = Store::<H> {
@@ -98,7 +98,7 @@ pub fn run<H: GramHash, S: Source + Drop>(
     index: &mut [Fingerprint<H::Value>],
     calls: Vec<Call<S, H::Value>>,
 ) -> Result<Vec<Answer>, AllocError>
-    ensures { MatchResult result (λ v. Ran (setting_over H.GramHash.value H.Value.Order.cmp plan.k plan.t (length tokens.old) (length index.old)) (map (asked S.Source.tokens S.Source.ending) calls.items) (map shown v.items) tokens.old tokens.new index.old index.new) (λ _. (tokens.new ≡ tokens.old) × (index.new ≡ index.old)) }
+    ensures { MatchResult result (λ v. Ran (setting_over H.GramHash.value H.Value.Ord.cmp plan.k plan.t (length tokens.old) (length index.old)) (map (asked S.Source.tokens S.Source.ending) calls.items) (map shown v.items) tokens.old tokens.new index.old index.new) (λ _. (tokens.new ≡ tokens.old) × (index.new ≡ index.old)) }
 {
     let mut answers = Vec::with_capacity(heap, calls.len())?;
     let room = capped(tokens.len());

@@ -24,12 +24,12 @@ impl<V: Order> Fingerprint<V> {
 }
 
 impl<V: Order> Order for Fingerprint<V> {
-    ghost cmp = { by_fields V.Order.cmp };
+    ghost cmp = { by_fields V.Ord.cmp };
 
     ghost total = { fields_total V.Order.total };
 
     fn compare(&self, other: &Fingerprint<V>) -> Ordering {
-        self.fields().compare(&other.fields())
+        self.fields().cmp(&other.fields())
     }
 }
 

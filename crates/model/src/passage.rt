@@ -57,6 +57,6 @@ impl Order for Passage {
     ghost total = { eight_total };
 
     fn compare(&self, other: &Passage) -> Ordering {
-        self.fields().compare(&other.fields())
+        self.fields().cmp(&other.fields())
     }
 }

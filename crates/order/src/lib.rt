@@ -35,8 +35,7 @@ impl<A: Order, B: Order> Order for (A, B) {
 // A rising list is known by what it lists.
 pub fn one_list<X>()
     ensures { OneList X }
-{
-}
+{}
 
 // A record derives its order, by its fields in turn. That is the order of nested pairs of them, which tell records apart.
 // This is the pattern for the records of other crates.

@@ -30,10 +30,10 @@ fn turn<T: Order>(xs: &mut [T], from: usize, first: usize, second: usize)
 // Writes the larger of x and y, and answers how x stands to y.
 fn write_larger<T: Order>(xs: &mut [T], w: usize, x: T, y: T) -> Ordering
     requires { w < length xs.old }
-    ensures answer { result ≡ T.Order.cmp x y }
+    ensures answer { result ≡ T.Ord.cmp x y }
     ensures after { xs.new ≡ slice_set xs.old w (larger result x y) }
 {
-    let answer = x.compare(&y);
+    let answer = x.cmp(&y);
     match answer {
         Ordering::Less => xs[w] = y,
         Ordering::Equal => xs[w] = x,
@@ -46,7 +46,7 @@ fn write_larger<T: Order>(xs: &mut [T], w: usize, x: T, y: T) -> Ordering
 // Of two equal ones one is kept.
 fn merge<T: Order>(xs: &mut [T], a: usize, b: usize, at: usize) -> usize
     requires { (a + b ≤ at) × (at + b ≤ length xs.old) }
-    ensures { Merged T.Order.cmp xs.old xs.new a b at result }
+    ensures { Merged T.Ord.cmp xs.old xs.new a b at result }
 {
     let mut i = a;
     let mut j = b;
@@ -84,7 +84,7 @@ struct Halves {
 // The longer list is parted in its middle, and the other by a search for the record there.
 fn halve<T: Order>(xs: &[T], a: usize, b: usize) -> Halves
     requires { (0 < a) × (1 < b) × (a + b ≤ length xs.now) }
-    ensures { Parting T.Order.cmp xs.now a b result.i result.j }
+    ensures { Parting T.Ord.cmp xs.now a b result.i result.j }
 {
     if b <= a {
         let i = a / 2;
@@ -100,7 +100,7 @@ fn halve<T: Order>(xs: &[T], a: usize, b: usize) -> Halves
 // One record that stands behind the first n is put in among them.
 fn insert_next<T: Order>(xs: &mut [T], n: usize) -> usize
     requires { n < length xs.old }
-    ensures { Grown T.Order.cmp xs.old xs.new n result }
+    ensures { Grown T.Ord.cmp xs.old xs.new n result }
 {
     let x = xs[n];
     match insert(xs, n, x) {
@@ -114,7 +114,7 @@ fn insert_next<T: Order>(xs: &mut [T], n: usize) -> usize
 // the b records, they are moved there and merged. Else both lists are parted, and the parts joined on their own.
 fn join<T: Order>(xs: &mut [T], a: usize, b: usize, at: usize) -> usize
     requires { (a + b ≤ at) × (at ≤ length xs.old) }
-    ensures { Joined T.Order.cmp xs.old xs.new a b at result }
+    ensures { Joined T.Ord.cmp xs.old xs.new a b at result }
 {
     if a == 0 || b == 0 {
         return a + b;
@@ -140,7 +140,7 @@ const FEW: usize = 16;
 // The first n records, one after the other, become a rising list.
 fn insert_each<T: Order>(xs: &mut [T], n: usize) -> usize
     requires { n ≤ length xs.old }
-    ensures { Gathered T.Order.cmp xs.old xs.new n result }
+    ensures { Gathered T.Ord.cmp xs.old xs.new n result }
 {
     let mut count = 0;
     for k in 0..n {
@@ -154,7 +154,7 @@ fn insert_each<T: Order>(xs: &mut [T], n: usize) -> usize
 // The first n records become a rising list, each half on its own first. What stands from `at` on is free room.
 fn sort<T: Order>(xs: &mut [T], n: usize, at: usize) -> usize
     requires { (n ≤ at) × (at ≤ length xs.old) }
-    ensures { Sorted T.Order.cmp xs.old xs.new n at result }
+    ensures { Sorted T.Ord.cmp xs.old xs.new n at result }
 {
     if n <= FEW {
         return insert_each(xs, n);
@@ -169,7 +169,7 @@ fn sort<T: Order>(xs: &mut [T], n: usize, at: usize) -> usize
 // The m records behind the first n become part of the list; what stands behind them is free room.
 fn take_in<T: Order>(xs: &mut [T], n: usize, m: usize) -> usize
     requires { n + m ≤ length xs.old }
-    ensures { TakenIn T.Order.cmp xs.old xs.new n m result }
+    ensures { TakenIn T.Ord.cmp xs.old xs.new n m result }
 {
     let b = sort(&mut xs[n..], m, m);
     join(xs, n, b, n + m)
@@ -187,7 +187,7 @@ fn reach(len: usize, n: usize, m: usize) -> usize
 // The same in the part before `end`.
 fn take_in_part<T: Order>(list: &mut [T], n: usize, m: usize, end: usize) -> usize
     requires { (n + m ≤ end) × (end ≤ length list.old) × (end ≤ n + m + m) }
-    ensures { AllIn T.Order.cmp list.old list.new n m result }
+    ensures { AllIn T.Ord.cmp list.old list.new n m result }
 {
     take_in(&mut list[0..end], n, m)
 }
@@ -196,7 +196,7 @@ fn take_in_part<T: Order>(list: &mut [T], n: usize, m: usize, end: usize) -> usi
 // records one is kept. Where another m entries are free they serve as room; the entries past these are untouched.
 pub fn insert_all<T: Order>(list: &mut [T], n: usize, m: usize) -> usize
     requires { n + m ≤ length list.old }
-    ensures { AllIn T.Order.cmp list.old list.new n m result }
+    ensures { AllIn T.Ord.cmp list.old list.new n m result }
 {
     let end = reach(list.len(), n, m);
     take_in_part(list, n, m, end)

@@ -19,7 +19,7 @@ pub trait Predicate<T> {
 // Where x stands among the first n, or in an Err where it would be put in.
 fn seat<T: Order>(list: &[T], n: usize, x: T) -> Result<usize, usize>
     requires { n ≤ length list.now }
-    ensures { MatchResult result (λ i. Already list.now list.now n i x) (λ i. Seat T.Order.cmp (take n list.now) i x × Missed T.Order.cmp list.now list.now n x) }
+    ensures { MatchResult result (λ i. Already list.now list.now n i x) (λ i. Seat T.Ord.cmp (take n list.now) i x × Missed T.Ord.cmp list.now list.now n x) }
 {
     find(&list[0..n], x)
 }
@@ -27,7 +27,7 @@ fn seat<T: Order>(list: &[T], n: usize, x: T) -> Result<usize, usize>
 // Moves the records from i up to n up by one, and writes x at i.
 fn put<T: Order>(list: &mut [T], n: usize, i: usize, x: T)
     requires { (i ≤ n) × (n < length list.old) }
-    ensures { Seat T.Order.cmp (take n list.old) i x → PutIn T.Order.cmp list.old list.new n i x }
+    ensures { Seat T.Ord.cmp (take n list.old) i x → PutIn T.Ord.cmp list.old list.new n i x }
 {
     list.copy_within(i..n, i + 1);
     list[i] = x;
@@ -36,7 +36,7 @@ fn put<T: Order>(list: &mut [T], n: usize, i: usize, x: T)
 // Moves the records after i and before n down by one.
 fn close<T: Order>(list: &mut [T], n: usize, i: usize)
     requires { (i < n) × (n ≤ length list.old) }
-    ensures { (x : T) → Already list.old list.old n i x → TakenOut T.Order.cmp list.old list.new n i x }
+    ensures { (x : T) → Already list.old list.old n i x → TakenOut T.Ord.cmp list.old list.new n i x }
 {
     list.copy_within(i + 1..n, i);
 }
@@ -44,7 +44,7 @@ fn close<T: Order>(list: &mut [T], n: usize, i: usize)
 // Puts x into the first n, which rise, at its place. An equal record is not put in twice, and without a free entry nothing is done.
 pub fn insert<T: Order>(list: &mut [T], n: usize, x: T) -> Insertion
     requires { n ≤ length list.old }
-    ensures { AfterInsert T.Order.cmp list.old list.new n x result }
+    ensures { AfterInsert T.Ord.cmp list.old list.new n x result }
 {
     match seat(list, n, x) {
         Ok(i) => Insertion::Present(i),
@@ -59,7 +59,7 @@ pub fn insert<T: Order>(list: &mut [T], n: usize, x: T) -> Insertion
 // Takes x out of the first n, which rise, and says where it stood; the list is unchanged where it did not.
 pub fn remove<T: Order>(list: &mut [T], n: usize, x: T) -> Option<usize>
     requires { n ≤ length list.old }
-    ensures { MatchOption result (Missed T.Order.cmp list.old list.new n x) (λ i. TakenOut T.Order.cmp list.old list.new n i x) }
+    ensures { MatchOption result (Missed T.Ord.cmp list.old list.new n x) (λ i. TakenOut T.Ord.cmp list.old list.new n i x) }
 {
     match seat(list, n, x) {
         Ok(i) => {
@@ -86,7 +86,7 @@ fn keep<T: Order>(list: &mut [T], left: usize, x: T, named: bool) -> usize
 // Takes out of the first n all that pass the test, in one pass, and answers how many are left.
 pub fn remove_all<T: Order, P: Predicate<T>>(list: &mut [T], n: usize, test: &P) -> usize
     requires { n ≤ length list.old }
-    ensures { Thinned T.Order.cmp (P.Predicate.holds test.now) list.old list.new n result }
+    ensures { Thinned T.Ord.cmp (P.Predicate.holds test.now) list.old list.new n result }
 {
     let mut left = 0;
     for i in 0..n {

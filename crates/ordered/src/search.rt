@@ -17,7 +17,7 @@ pub trait Key<T: Order> {
     fn place(&self, x: &T) -> Ordering
         ensures { result ≡ places self.now x.now };
 
-    ghost steady: { (k : Self) (x y : T) → T.Order.cmp x y ≡ Less → Steady (places k x) (places k y) };
+    ghost steady: { (k : Self) (x y : T) → T.Ord.cmp x y ≡ Less → Steady (places k x) (places k y) };
 }
 
 // A whole record as a key.
@@ -25,12 +25,12 @@ pub trait Key<T: Order> {
 pub struct Exactly<T>(pub T);
 
 impl<T: Order> Key<T> for Exactly<T> {
-    ghost places = { λ k x. T.Order.cmp x k.0 };
+    ghost places = { λ k x. T.Ord.cmp x k.0 };
 
     ghost steady = { Prim.search rules };
 
     fn place(&self, x: &T) -> Ordering {
-        x.compare(&self.0)
+        x.cmp(&self.0)
     }
 }
 
@@ -85,7 +85,7 @@ pub fn upper_bound<T: Order, K: Key<T>>(list: &[T], key: &K) -> usize
 // The records of the key: where the list rises they stand together, from `from` to before `to`.
 pub fn range<T: Order, K: Key<T>>(list: &[T], key: &K) -> Span
     ensures within { (result.from ≤ length list.now) × (result.to ≤ length list.now) }
-    ensures together { Rising T.Order.cmp list.now → Together (K.Key.places key.now) list.now result.from result.to }
+    ensures together { Rising T.Ord.cmp list.now → Together (K.Key.places key.now) list.now result.from result.to }
 {
     Span {
         from: lower_bound(list, key),
@@ -100,7 +100,7 @@ fn stands_at<T: Order>(list: &[T], place: usize, x: &T) -> bool
     if place >= list.len() {
         return false;
     }
-    match list[place].compare(x) {
+    match list[place].cmp(x) {
         Ordering::Equal => true,
         _ => false,
     }
@@ -108,7 +108,7 @@ fn stands_at<T: Order>(list: &[T], place: usize, x: &T) -> bool
 
 // Where x stands, or in an Err where it would be put in.
 pub fn find<T: Order>(list: &[T], x: T) -> Result<usize, usize>
-    ensures { MatchResult result (λ i. Stands list.now i x) (λ i. Seat T.Order.cmp list.now i x) }
+    ensures { MatchResult result (λ i. Stands list.now i x) (λ i. Seat T.Ord.cmp list.now i x) }
 {
     let i = lower_bound(list, &Exactly(x));
     if stands_at(list, i, &x) {

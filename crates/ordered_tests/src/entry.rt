@@ -27,14 +27,14 @@ impl<V: Order> Entry<V> {
 }
 
 impl<V: Order> Order for Entry<V> {
-    ghost cmp = { by_fields V.Order.cmp };
+    ghost cmp = { by_fields V.Ord.cmp };
 
     // the fields tell entries apart
     ghost total = { order_by (order_both V.Order.total (order_both numbers numbers)) (λ x. (x.value, (x.file, x.place)))
         (λ x y e i. record { value = (e i).0; file = (e i).1.0; place = (e i).1.1 }) };
 
     fn compare(&self, other: &Entry<V>) -> Ordering {
-        self.fields().compare(&other.fields())
+        self.fields().cmp(&other.fields())
     }
 }
 
@@ -43,13 +43,13 @@ impl<V: Order> Order for Entry<V> {
 pub struct OfValue<V>(pub V);
 
 impl<V: Order> Key<Entry<V>> for OfValue<V> {
-    ghost places = { λ k x. V.Order.cmp x.value k.0 };
+    ghost places = { λ k x. V.Ord.cmp x.value k.0 };
 
     // entries are ordered by value first
     ghost steady = { λ k x y h. leading V.Order.total (λ e. e.value) (λ a b. by_both nat_cmp nat_cmp (a.file, a.place) (b.file, b.place)) k.0 x y h };
 
     fn place(&self, x: &Entry<V>) -> Ordering {
-        x.value.compare(&self.0)
+        x.value.cmp(&self.0)
     }
 }
 

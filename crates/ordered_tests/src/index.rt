@@ -23,7 +23,7 @@ pub struct Index<'a, V: Order> {
 impl<V: Order> Index<'_, V> {
     pub fn add(&mut self, x: Entry<V>) -> Insertion
         requires { self.old.count ≤ length self.old.entries.now }
-        ensures entries { AfterInsert (by_fields V.Order.cmp) self.old.entries.now self.new.entries.now self.old.count x result }
+        ensures entries { AfterInsert (by_fields V.Ord.cmp) self.old.entries.now self.new.entries.now self.old.count x result }
         ensures count { self.new.count ≡ self.old.count + more result }
     {
         let n = self.count;
@@ -36,7 +36,7 @@ impl<V: Order> Index<'_, V> {
 
     pub fn add_batch(&mut self, m: usize)
         requires { self.old.count + m ≤ length self.old.entries.now }
-        ensures { AllIn (by_fields V.Order.cmp) self.old.entries.now self.new.entries.now self.old.count m self.new.count }
+        ensures { AllIn (by_fields V.Ord.cmp) self.old.entries.now self.new.entries.now self.old.count m self.new.count }
     {
         let n = self.count;
         self.count = insert_all(self.entries, n, m);
@@ -44,7 +44,7 @@ impl<V: Order> Index<'_, V> {
 
     pub fn remove_file(&mut self, file: u16)
         requires { self.old.count ≤ length self.old.entries.now }
-        ensures { Thinned (by_fields V.Order.cmp) (λ x. nat_eq x.file file) self.old.entries.now self.new.entries.now self.old.count self.new.count }
+        ensures { Thinned (by_fields V.Ord.cmp) (λ x. nat_eq x.file file) self.old.entries.now self.new.entries.now self.old.count self.new.count }
     {
         let n = self.count;
         self.count = remove_all(self.entries, n, &OfFile(file));
@@ -53,7 +53,7 @@ impl<V: Order> Index<'_, V> {
     // The entries of the value are those at the places of the span, where the entries rise.
     pub fn of_value(&self, value: V) -> Span
         requires { self.now.count ≤ length self.now.entries.now }
-        ensures { Rising (by_fields V.Order.cmp) (take self.now.count self.now.entries.now) → Together (λ x. V.Order.cmp x.value value) (take self.now.count self.now.entries.now) result.from result.to }
+        ensures { Rising (by_fields V.Ord.cmp) (take self.now.count self.now.entries.now) → Together (λ x. V.Ord.cmp x.value value) (take self.now.count self.now.entries.now) result.from result.to }
     {
         range(&self.entries[0..self.count], &OfValue(value))
     }

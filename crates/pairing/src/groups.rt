@@ -13,10 +13,10 @@ use ordered::edit::Predicate;
 pub struct OfValue<V>(pub V);
 
 impl<V: Order> Predicate<Fingerprint<V>> for OfValue<V> {
-    ghost holds = { λ k x. is_eq (V.Order.cmp x.value k.0) };
+    ghost holds = { λ k x. is_eq (V.Ord.cmp x.value k.0) };
 
     fn test(&self, x: &Fingerprint<V>) -> bool {
-        x.value.compare(&self.0).is_eq()
+        x.value.cmp(&self.0).is_eq()
     }
 }
 
@@ -51,7 +51,7 @@ pub fn count_while<V: Order, P: Predicate<Fingerprint<V>>>(
 // How many entries have the value of the first one, up to the first entry of another value.
 pub fn first_group<V: Order>(prints: &[Fingerprint<V>]) -> usize
     requires { 0 < length prints.now }
-    ensures count { result ≡ first_group V.Order.cmp prints.now }
+    ensures count { result ≡ first_group V.Ord.cmp prints.now }
     ensures some { 1 ≤ result }
     ensures within { result ≤ length prints.now }
 {

@@ -69,7 +69,7 @@ fn meet_group<V: Order>(
 // Walks over the index, group by group.
 fn walk<V: Order>(scope: Scope, index: &[Fingerprint<V>], list: &mut [Passage]) -> Option<Reported>
     requires { Fit scope }
-    ensures { Rising (by_fields V.Order.cmp) index.now → Counted scope.entry.k (files scope.entry) (index_pairs V.Order.cmp scope.entry.number index.now) list.old no_counts list.new result }
+    ensures { Rising (by_fields V.Ord.cmp) index.now → Counted scope.entry.k (files scope.entry) (index_pairs V.Ord.cmp scope.entry.number index.now) list.old no_counts list.new result }
 {
     let mut counts = Reported {
         passages: 0,
@@ -104,7 +104,7 @@ pub fn report<'a, V: Order>(
 ) -> Result<Reported, Refusal>
     requires { (extent table.now ≤ length tokens.now) × ((length tokens.now ≤ 1048576) × ((length index.now ≤ 1048576) × (1 ≤ k))) }
     ensures long { length list.new ≡ length list.old }
-    ensures outcome { Rising (by_fields V.Order.cmp) index.now → reported result list.new ≡ pairs_outcome (known number (cut table.now tokens.now)) k (cut table.now tokens.now) (index_pairs V.Order.cmp number index.now) (length list.old) }
+    ensures outcome { Rising (by_fields V.Ord.cmp) index.now → reported result list.new ≡ pairs_outcome (known number (cut table.now tokens.now)) k (cut table.now tokens.now) (index_pairs V.Ord.cmp number index.now) (length list.old) }
 {
     clear(list);
     let Some(own) = held_tokens(tokens, table, number) else {

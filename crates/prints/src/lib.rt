@@ -34,7 +34,7 @@ pub fn no_window<V>() -> u8
 
 // Every hash has a total order of its values.
 pub fn values_ordered<H: GramHash>() -> u8
-    ensures { TotalOrder H.Value.Order.cmp }
+    ensures { TotalOrder H.Value.Ord.cmp }
 {
     0
 }

@@ -53,7 +53,7 @@ pub fn fingerprints<H: GramHash>(
     work: &mut [Placed<H::Value>],
 ) -> Result<Vec<Placed<H::Value>>, Unfit>
     ensures fit { MatchResult result (λ _. Fit k w (length work.old) codes.now) (UnfitFor k w (length work.old) codes.now) }
-    ensures listed { IfOk result (λ v. ChosenListed H.GramHash.value H.Value.Order.cmp k w codes.now v.items) }
+    ensures listed { IfOk result (λ v. ChosenListed H.GramHash.value H.Value.Ord.cmp k w codes.now v.items) }
 {
     if k < 1 || k > 64 {
         return Err(Unfit::Gram);

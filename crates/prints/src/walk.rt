@@ -88,8 +88,8 @@ impl<'a, H: GramHash, C: Codes> Winnow<'a, H, C> {
         requires gram { (1 ≤ k) × (k ≤ 64) }
         requires window { (1 ≤ w) × (w ≤ length work.old) }
         requires coded { Coded (C.Codes.codes codes) }
-        ensures walking { Walking H.GramHash.value H.Value.Order.cmp C.Codes.codes result }
-        ensures all { remaining H.GramHash.value H.Value.Order.cmp C.Codes.codes result ≡ winnowed H.GramHash.value H.Value.Order.cmp k w (C.Codes.codes codes) }
+        ensures walking { Walking H.GramHash.value H.Value.Ord.cmp C.Codes.codes result }
+        ensures all { remaining H.GramHash.value H.Value.Ord.cmp C.Codes.codes result ≡ winnowed H.GramHash.value H.Value.Ord.cmp k w (C.Codes.codes codes) }
     {
         let left = gram_count(codes.len(), k);
         let value = first_value::<H, C>(&codes, k);
@@ -107,8 +107,8 @@ impl<'a, H: GramHash, C: Codes> Winnow<'a, H, C> {
 
     // Pushes the value at `next`, and answers the best of the window that ends there.
     fn advance(&mut self) -> Option<Placed<H::Value>>
-        requires { (Going H.GramHash.value H.Value.Order.cmp C.Codes.codes self.old) × (0 < self.old.left) }
-        ensures { Advanced H.GramHash.value H.Value.Order.cmp C.Codes.codes self.old self.new result }
+        requires { (Going H.GramHash.value H.Value.Ord.cmp C.Codes.codes self.old) × (0 < self.old.left) }
+        ensures { Advanced H.GramHash.value H.Value.Ord.cmp C.Codes.codes self.old self.new result }
     {
         let i = self.next;
         let best = self.queue.push(i, self.value);
@@ -123,8 +123,8 @@ impl<'a, H: GramHash, C: Codes> Winnow<'a, H, C> {
 
     // The next chosen place with its value.
     pub fn next(&mut self) -> Option<Placed<H::Value>>
-        requires { Walking H.GramHash.value H.Value.Order.cmp C.Codes.codes self.old }
-        ensures { Handed H.GramHash.value H.Value.Order.cmp C.Codes.codes self.old self.new result }
+        requires { Walking H.GramHash.value H.Value.Ord.cmp C.Codes.codes self.old }
+        ensures { Handed H.GramHash.value H.Value.Ord.cmp C.Codes.codes self.old self.new result }
     {
         while self.left > 0 {
             if let Some(best) = self.advance() {
@@ -139,9 +139,9 @@ impl<'a, H: GramHash, C: Codes> Winnow<'a, H, C> {
 
     // Goes to the end, and answers how many places there were still to hand out.
     pub fn count(&mut self) -> usize
-        requires { Walking H.GramHash.value H.Value.Order.cmp C.Codes.codes self.old }
-        ensures all { result ≡ length (remaining H.GramHash.value H.Value.Order.cmp C.Codes.codes self.old) }
-        ensures none { remaining H.GramHash.value H.Value.Order.cmp C.Codes.codes self.new ≡ [] }
+        requires { Walking H.GramHash.value H.Value.Ord.cmp C.Codes.codes self.old }
+        ensures all { result ≡ length (remaining H.GramHash.value H.Value.Ord.cmp C.Codes.codes self.old) }
+        ensures none { remaining H.GramHash.value H.Value.Ord.cmp C.Codes.codes self.new ≡ [] }
     {
         let mut n = 0;
         while let Some(_) = self.next() {

@@ -26,9 +26,9 @@ pub struct WindowQueue<'a, V> {
 
 // Of two values the smaller, and the later of two equal ones.
 fn better<V: Order>(earlier: &Placed<V>, later: &Placed<V>) -> Placed<V>
-    ensures { result ≡ better_of V.Order.cmp earlier.now later.now }
+    ensures { result ≡ better_of V.Ord.cmp earlier.now later.now }
 {
-    match earlier.value.compare(&later.value) {
+    match earlier.value.cmp(&later.value) {
         Ordering::Less => *earlier,
         _ => *later,
     }
@@ -36,7 +36,7 @@ fn better<V: Order>(earlier: &Placed<V>, later: &Placed<V>) -> Placed<V>
 
 // The best of a block of which `taken` values came before, with one value more.
 fn grown<V: Order>(taken: usize, back: &Placed<V>, place: usize, value: V) -> Placed<V>
-    ensures { result ≡ (if nat_eq taken 0 then placed place value else better_of V.Order.cmp back.now (placed place value)) }
+    ensures { result ≡ (if nat_eq taken 0 then placed place value else better_of V.Ord.cmp back.now (placed place value)) }
 {
     let new = Placed { place, value };
     if taken == 0 {
@@ -49,7 +49,7 @@ fn grown<V: Order>(taken: usize, back: &Placed<V>, place: usize, value: V) -> Pl
 fn settle<V: Order>(slots: &mut [Placed<V>], width: usize)
     requires { (0 < width) × (width ≤ length slots.old) }
     ensures same { length slots.new ≡ length slots.old }
-    ensures best { (at : ℕ → V) (b : ℕ) → Whole V.Order.cmp at b width slots.old → Settled V.Order.cmp at b width slots.new }
+    ensures best { (at : ℕ → V) (b : ℕ) → Whole V.Ord.cmp at b width slots.old → Settled V.Ord.cmp at b width slots.new }
 {
     let mut best = slots[width - 1];
     for j in (0..width - 1).rev() {
@@ -64,7 +64,7 @@ impl<'a, V: Order> WindowQueue<'a, V> {
         requires { (0 < width) × (width ≤ length slots.old) }
         ensures width { result.width ≡ width }
         ensures ready { Ready result }
-        ensures none { (at : ℕ → V) → Holds V.Order.cmp at 0 result }
+        ensures none { (at : ℕ → V) → Holds V.Ord.cmp at 0 result }
     {
         let back = slots[0];
         WindowQueue {
@@ -81,7 +81,7 @@ impl<'a, V: Order> WindowQueue<'a, V> {
         requires { Ready self.old }
         ensures width { self.new.width ≡ self.old.width }
         ensures ready { Ready self.new }
-        ensures best { (at : ℕ → V) (n : ℕ) → Holds V.Order.cmp at n self.old → place ≡ n → value ≡ at n → Pushed V.Order.cmp at n self.old.width self.new result }
+        ensures best { (at : ℕ → V) (n : ℕ) → Holds V.Ord.cmp at n self.old → place ≡ n → value ≡ at n → Pushed V.Ord.cmp at n self.old.width self.new result }
     {
         let width = self.width;
         let taken = self.taken;

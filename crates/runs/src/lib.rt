@@ -13,14 +13,14 @@ pub mod longest;
 
 // For every hash: every longest run of t or more tokens holds a pair of chosen places with equal values, equally far from its starts.
 pub fn guarantee<H: GramHash>() -> u8
-    ensures { Guarantee H.GramHash.value H.Value.Order.cmp }
+    ensures { Guarantee H.GramHash.value H.Value.Ord.cmp }
 {
     0
 }
 
 // For every hash: the chosen places of a token list, computed, are exactly those of the relation.
 pub fn prints_listed<H: GramHash>() -> u8
-    ensures { PrintsListed H.GramHash.value H.Value.Order.cmp }
+    ensures { PrintsListed H.GramHash.value H.Value.Ord.cmp }
 {
     0
 }

@@ -12,7 +12,7 @@ overflow_cast-free g c =
     let some = c.requires.window.0 in
     let size = c.requires.size in
     let member =
-    handed_in {all = winnowed g.H.GramHash.value g.H.Value.Order.cmp c.args.k c.args.w (codes c.args.tokens.now)} {y = c.next.new.self} c.loop-found.invariant.1 c.in-Some.ensures in
+    handed_in {all = winnowed g.H.GramHash.value g.H.Value.Ord.cmp c.args.k c.args.w (codes c.args.tokens.now)} {y = c.next.new.self} c.loop-found.invariant.1 c.in-Some.ensures in
     let inside : c.in-Some.found.place + c.args.k ≤ length (codes c.args.tokens.now) =
     winnowed_within g.H.GramHash.value g.met.H.Value.Order.total c.args.k c.args.w some (codes c.args.tokens.now) low c.in-Some.found member in
     let count : length (codes c.args.tokens.now) ≡ length c.args.tokens.now = length-map c.args.tokens.now (λ a. a.code) in

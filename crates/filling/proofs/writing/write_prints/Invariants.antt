@@ -7,8 +7,8 @@ use Rattle.filling.proofs.writing.write_prints.Given as goal
 
 abbrev pub invariant-loop-found : goal.invariant-loop-found
 invariant-loop-found g l =
-    Walking g.H.GramHash.value g.H.Value.Order.cmp (λ s. codes s.all.now) l.walk
-    × Underway (filed l.number) l.initial.free l.free (winnowed g.H.GramHash.value g.H.Value.Order.cmp l.k l.w (codes l.tokens)) (remaining g.H.GramHash.value g.H.Value.Order.cmp (λ s. codes s.all.now) l.walk) l.n
+    Walking g.H.GramHash.value g.H.Value.Ord.cmp (λ s. codes s.all.now) l.walk
+    × Underway (filed l.number) l.initial.free l.free (winnowed g.H.GramHash.value g.H.Value.Ord.cmp l.k l.w (codes l.tokens)) (remaining g.H.GramHash.value g.H.Value.Ord.cmp (λ s. codes s.all.now) l.walk) l.n
 
 abbrev pub decreases-loop-found : goal.decreases-loop-found
-decreases-loop-found g l = length (remaining g.H.GramHash.value g.H.Value.Order.cmp (λ s. codes s.all.now) l.walk)
+decreases-loop-found g l = length (remaining g.H.GramHash.value g.H.Value.Ord.cmp (λ s. codes s.all.now) l.walk)

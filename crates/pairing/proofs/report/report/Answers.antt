@@ -12,7 +12,7 @@ pub returns-in-Some-walk : goal.returns-in-Some-walk
 returns-in-Some-walk g c =
     let fs = cut c.args.table.now c.args.tokens.now in
     let index = c.args.index.now in
-    let cmp = g.V.Order.cmp in
+    let cmp = g.V.Ord.cmp in
     record {
       long = c.walk.auto.list ∙ c.clear.auto.list;
       outcome = λ r.
@@ -32,5 +32,5 @@ returns-in-None g c =
       long = c.clear-in-None.auto.list ∙ long;
       outcome = λ r.
           ap₂ (λ (e : Refusal) (l : List Passage). reported (Err e) l) c.plain-in-None.ensures zeros
-          ∙ rw c.in-Some.ensures.0 (overfull c.args.k fs (index_pairs g.V.Order.cmp c.args.number index) c.clear.new.list room c.clear.ensures (c.in-None.ensures r));
+          ∙ rw c.in-Some.ensures.0 (overfull c.args.k fs (index_pairs g.V.Ord.cmp c.args.number index) c.clear.new.list room c.clear.ensures (c.in-None.ensures r));
     }

@@ -22,4 +22,4 @@ returns g c r =
 pub loop-at-init : goal.loop-at-init
 loop-at-init g c =
     let s = c.args.scope in
-    (omega arith, walked_none g.V.Order.cmp s.number s.k (files s) c.args.index.now c.args.list.now _ (search rules))
+    (omega arith, walked_none g.V.Ord.cmp s.number s.k (files s) c.args.index.now c.args.list.now _ (search rules))

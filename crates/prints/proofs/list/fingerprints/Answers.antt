@@ -10,14 +10,14 @@ use Rattle.std.specs.Ordering.{nat_cmp}
 pub loop-found-preserved : goal.loop-found-preserved
 loop-found-preserved g c =
     let grown : vec_items c.push.new.self ≡ vec_items c.loop-found.list ++ c.in-Some.found ∷ [] = rw c.in_ok-push.was at c.push.ensures.items in
-    let all = winnowed g.H.GramHash.value g.H.Value.Order.cmp c.args.k c.args.w c.args.codes.now in
+    let all = winnowed g.H.GramHash.value g.H.Value.Ord.cmp c.args.k c.args.w c.args.codes.now in
     let handed = c.in-Some.ensures in
-    (handed.walking, ap (λ l. l ++ remaining g.H.GramHash.value g.H.Value.Order.cmp (λ s. s.all.now) c.next.new.self) grown ∙ handed_more c.loop-found.walk c.next.new.self c.in-Some.found (vec_items c.loop-found.list) all handed c.loop-found.invariant.1)
+    (handed.walking, ap (λ l. l ++ remaining g.H.GramHash.value g.H.Value.Ord.cmp (λ s. s.all.now) c.next.new.self) grown ∙ handed_more c.loop-found.walk c.next.new.self c.in-Some.found (vec_items c.loop-found.list) all handed c.loop-found.invariant.1)
 
 pub returns : goal.returns
 returns g c =
     let hash = g.H.GramHash.value in
-    let cmp = g.H.Value.Order.cmp in
+    let cmp = g.H.Value.Ord.cmp in
     let cs = c.args.codes.now in
     let none = handed_none c.loop-found.walk c.next.new.self c.in_default.ensures in
     let all : vec_items c.loop-found.list ≡ winnowed hash cmp c.args.k c.args.w cs = sym (append-nil (vec_items c.loop-found.list)) ∙ ap (λ l. vec_items c.loop-found.list ++ l) (sym none) ∙ c.loop-found.invariant.1 in

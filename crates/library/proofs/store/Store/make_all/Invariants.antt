@@ -8,6 +8,6 @@ use Rattle.library.proofs.store.Store.make_all.Given as goal
 abbrev pub invariant-loop-call : goal.invariant-loop-call
 invariant-loop-call g l =
     Shape l.self
-    × Underway g.H.GramHash.value g.H.Value.Order.cmp l.initial.self l.self (map (asked g.S.Source.tokens g.S.Source.ending) (into_iter_items l.initial.call-iterator)) (map shown (vec_items l.answers))
+    × Underway g.H.GramHash.value g.H.Value.Ord.cmp l.initial.self l.self (map (asked g.S.Source.tokens g.S.Source.ending) (into_iter_items l.initial.call-iterator)) (map shown (vec_items l.answers))
     (map (asked g.S.Source.tokens g.S.Source.ending) (into_iter_items l.call-iterator))
     × (vec_len l.answers + into_iter_len l.call-iterator ≤ vec_capacity l.answers)

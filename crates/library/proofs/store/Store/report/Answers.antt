@@ -12,7 +12,7 @@ pub returns : goal.returns
 returns g c =
     let s = c.args.self.now in
     let n = c.args.number in
-    let cmp = g.H.Value.Order.cmp in
+    let cmp = g.H.Value.Ord.cmp in
     let zc : s.count - 0 ≡ s.count = omega arith in
     let zp : s.prints - 0 ≡ s.prints = omega arith in
     let e : Rising (by_fields cmp) (take (s.prints - 0) s.index.now) → reported c.report.result c.report.new.list ≡ pairs_outcome (known n (cut (take (s.count - 0) s.table) s.tokens.now)) s.k (cut (take (s.count - 0) s.table) s.tokens.now) (index_pairs cmp n (take (s.prints - 0) s.index.now)) (length c.args.list.now) = c.report.ensures.outcome in

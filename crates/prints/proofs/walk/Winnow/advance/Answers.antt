@@ -9,7 +9,7 @@ returns-then-self-eq0 g c =
     let going = c.requires.0 in
     let some = c.requires.1 in
     let none = c.if-self-eq0.true in
-    let row = row_of g.H.GramHash.value g.H.Value.Order.cmp g.C.Codes.codes x in
+    let row = row_of g.H.GramHash.value g.H.Value.Ord.cmp g.C.Codes.codes x in
     record {
       codes = refl;
       k = refl;
@@ -30,7 +30,7 @@ returns g c =
     let count = going.count in
     let low = going.low in
     let cs = g.C.Codes.codes x.codes in
-    let row = row_of g.H.GramHash.value g.H.Value.Order.cmp g.C.Codes.codes x in
+    let row = row_of g.H.GramHash.value g.H.Value.Ord.cmp g.C.Codes.codes x in
     record {
       codes = refl;
       k = refl;

@@ -16,7 +16,7 @@ returns g c =
     let long : c.len.result ≡ length cs = c.len.ensures in
     let count = c.gram_count-left.ensures in
     let wide = c.new-queue.ensures.width in
-    let all = chosen g.H.Value.Order.cmp c.args.w row (grams c.args.k cs) in
+    let all = chosen g.H.Value.Ord.cmp c.args.w row (grams c.args.k cs) in
     record {
       walking = record {
         going = record {
@@ -30,5 +30,5 @@ returns g c =
         };
         gone = λ s p fits r. absurd (omega arith);
       };
-      all = ap (λ w. map (at_place row) (filter (leb 0) (chosen g.H.Value.Order.cmp w row (grams c.args.k cs)))) wide ∙ ap (map (at_place row)) (kept_whole 0 all (λ y i. omega arith));
+      all = ap (λ w. map (at_place row) (filter (leb 0) (chosen g.H.Value.Ord.cmp w row (grams c.args.k cs)))) wide ∙ ap (map (at_place row)) (kept_whole 0 all (λ y i. omega arith));
     }

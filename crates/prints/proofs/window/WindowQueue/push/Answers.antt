@@ -28,7 +28,7 @@ returns-then-self g c =
     record {
       width = refl;
       ready = record { inside = omega arith; fits = omega arith };
-      best = λ at n h e f. pushed_over g.met.V.Order.total q c.args.place c.args.value c.grown-self.result c.grown-self.ensures at n e f h.0 h.1 _ (record { inside = omega arith; fits = omega arith }) refl refl refl refl refl (omega arith) c.if-self.true c.index-self-next.result c.better.result c.index-self-next.is (c.better.ensures ∙ ap (λ x. better_of g.V.Order.cmp x c.grown-self.result) (sym c.index-self-next.is));
+      best = λ at n h e f. pushed_over g.met.V.Order.total q c.args.place c.args.value c.grown-self.result c.grown-self.ensures at n e f h.0 h.1 _ (record { inside = omega arith; fits = omega arith }) refl refl refl refl refl (omega arith) c.if-self.true c.index-self-next.result c.better.result c.index-self-next.is (c.better.ensures ∙ ap (λ x. better_of g.V.Ord.cmp x c.grown-self.result) (sym c.index-self-next.is));
     }
 
 pub returns-else-self : goal.returns-else-self
