@@ -24,12 +24,12 @@ no_bytes = record { from = 0; to = 0 }
 abbrev pub no_passage : Passage
 no_passage = record { other = 0; left = 0; right = 0; len = 0; here = no_bytes; there = no_bytes }
 
--- its eight fields
-abbrev pub eight : Passage → ℕ × (ℕ × (ℕ × (ℕ × (ℕ × (ℕ × (ℕ × ℕ))))))
-eight x = (x.other, (x.left, (x.right, (x.len, (x.here.from, (x.here.to, (x.there.from, x.there.to)))))))
+-- its eight fields, those of each span together
+abbrev pub eight : Passage → ℕ × (ℕ × (ℕ × (ℕ × ((ℕ × ℕ) × (ℕ × ℕ)))))
+eight x = (x.other, (x.left, (x.right, (x.len, ((x.here.from, x.here.to), (x.there.from, x.there.to))))))
 
-abbrev pub eight_cmp : ℕ × (ℕ × (ℕ × (ℕ × (ℕ × (ℕ × (ℕ × ℕ)))))) → ℕ × (ℕ × (ℕ × (ℕ × (ℕ × (ℕ × (ℕ × ℕ)))))) → Ordering
-eight_cmp = by_both nat_cmp (by_both nat_cmp (by_both nat_cmp (by_both nat_cmp (by_both nat_cmp (by_both nat_cmp (by_both nat_cmp nat_cmp))))))
+abbrev pub eight_cmp : ℕ × (ℕ × (ℕ × (ℕ × ((ℕ × ℕ) × (ℕ × ℕ))))) → ℕ × (ℕ × (ℕ × (ℕ × ((ℕ × ℕ) × (ℕ × ℕ))))) → Ordering
+eight_cmp = by_both nat_cmp (by_both nat_cmp (by_both nat_cmp (by_both nat_cmp (by_both (by_both nat_cmp nat_cmp) (by_both nat_cmp nat_cmp)))))
 
 -- passages rise by these, from the left to the right
 abbrev pub by_eight : Passage → Passage → Ordering

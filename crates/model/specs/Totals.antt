@@ -12,13 +12,13 @@ fields_total o =
 
 pub eight_total : TotalOrder by_eight
 eight_total =
-    order_by (order_both numbers (order_both numbers (order_both numbers (order_both numbers (order_both numbers (order_both numbers (order_both numbers numbers))))))) eight
+    order_by (order_both numbers (order_both numbers (order_both numbers (order_both numbers (order_both (order_both numbers numbers) (order_both numbers numbers)))))) eight
     (λ x y e i.
     record {
       other = (e i).0;
       left = (e i).1.0;
       right = (e i).1.1.0;
       len = (e i).1.1.1.0;
-      here = record { from = (e i).1.1.1.1.0; to = (e i).1.1.1.1.1.0 };
-      there = record { from = (e i).1.1.1.1.1.1.0; to = (e i).1.1.1.1.1.1.1 };
+      here = record { from = (e i).1.1.1.1.0.0; to = (e i).1.1.1.1.0.1 };
+      there = record { from = (e i).1.1.1.1.1.0; to = (e i).1.1.1.1.1.1 };
     })

@@ -5,7 +5,7 @@ ghost use Rattle.model.specs.Refusals.{reason_number, plain, handed_on, of_cause
 use tokens::token::{Cause, Fault};
 
 // The causes of faults, 1 to 9, and the reasons of the calls' own, by the numbers that are answered.
-#[derive(Clone, Copy)]
+#[derive(Clone, Copy, PartialEq, Eq, Debug)]
 pub enum Reason {
     TooLong = 1,
     ZeroByte = 2,
@@ -44,16 +44,17 @@ pub enum Reason {
     FileUnread = 71,
 }
 
-impl Reason {
-    pub fn number(self) -> u8
-        ensures { result ≡ reason_number self }
-    {
-        self as u8
+// The number that is answered.
+impl From<Reason> for u8 {
+    ghost from_gives = { λ r n. n ≡ reason_number r };
+
+    fn from(reason: Reason) -> u8 {
+        reason as u8
     }
 }
 
 // A refusal: its reason, and the place and the depth of the fault, if it is one.
-#[derive(Clone, Copy)]
+#[derive(Clone, Copy, PartialEq, Eq, Debug)]
 pub struct Refusal {
     pub reason: Reason,
     pub place: u32,
@@ -74,19 +75,21 @@ impl Refusal {
 }
 
 // A cause as a reason, under the same number.
-fn of_cause(cause: Cause) -> Reason
-    ensures { result ≡ of_cause cause }
-{
-    match cause {
-        Cause::TooLong => Reason::TooLong,
-        Cause::ZeroByte => Reason::ZeroByte,
-        Cause::OpenComment => Reason::OpenComment,
-        Cause::LongName => Reason::LongName,
-        Cause::Fifth => Reason::Fifth,
-        Cause::Sixth => Reason::Sixth,
-        Cause::Seventh => Reason::Seventh,
-        Cause::Eighth => Reason::Eighth,
-        Cause::Ninth => Reason::Ninth,
+impl From<Cause> for Reason {
+    ghost from_gives = { λ c r. r ≡ of_cause c };
+
+    fn from(cause: Cause) -> Reason {
+        match cause {
+            Cause::TooLong => Reason::TooLong,
+            Cause::ZeroByte => Reason::ZeroByte,
+            Cause::OpenComment => Reason::OpenComment,
+            Cause::LongName => Reason::LongName,
+            Cause::Fifth => Reason::Fifth,
+            Cause::Sixth => Reason::Sixth,
+            Cause::Seventh => Reason::Seventh,
+            Cause::Eighth => Reason::Eighth,
+            Cause::Ninth => Reason::Ninth,
+        }
     }
 }
 
@@ -96,7 +99,7 @@ impl From<Fault> for Refusal {
 
     fn from(fault: Fault) -> Refusal {
         Refusal {
-            reason: of_cause(fault.cause),
+            reason: Reason::from(fault.cause),
             place: fault.place,
             depth: fault.depth,
         }

@@ -3,14 +3,14 @@ ghost use Rattle.std.specs.Prelude.{◌≡◌, ℕ, ◌+◌, ◌-◌, ◌^◌, �
 ghost use Rattle.model.specs.Tables.{At, Absent, extent};
 
 // A held file: its number, and how many tokens it has. The tokens of the files lie end to end in the order of the table.
-#[derive(Clone, Copy)]
+#[derive(Clone, Copy, PartialEq, Eq, Debug)]
 pub struct Entry {
     pub number: u16,
     pub len: usize,
 }
 
 // Where a file stands: its place in the table, and its tokens from `start` on.
-#[derive(Clone, Copy)]
+#[derive(Clone, Copy, PartialEq, Eq, Debug)]
 pub struct Spot {
     pub slot: usize,
     pub start: usize,
@@ -23,8 +23,7 @@ pub fn find(table: &[Entry], number: u16) -> Option<Spot>
     ensures { MatchOption result (Absent number table.now) (At number table.now) }
 {
     let mut start = 0;
-    for slot in 0..table.len() {
-        let entry = table[slot];
+    for (slot, entry) in table.iter().enumerate() {
         if entry.number == number {
             return Some(Spot {
                 slot,
