@@ -8,7 +8,7 @@ pub struct Added {
 }
 
 // The counts of a granted Report: passages, pairs compared, and those of them whose grams differ.
-#[derive(Clone, Copy, PartialEq, Eq, Debug)]
+#[derive(Clone, Copy, PartialEq, Eq, Debug, Default)]
 pub struct Reported {
     pub passages: usize,
     pub pairs: u64,

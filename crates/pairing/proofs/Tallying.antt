@@ -226,7 +226,7 @@ module _ {V : Type 0} (k : ℕ) (fs : Files) (p : Fingerprint V × Fingerprint V
 -- ---- a pair as the walk has it: the tokens of both files, and the places
 
 module _ {V : Type 0} (k : ℕ) (fs : Files) (a b : Fingerprint V) {own other : List Token} {i j : ℕ} (here : own ≡ tokens_of a.file fs) (there : other ≡ tokens_of b.file fs) (left : i ≡ a.place) (right : j ≡ b.place) where
-  alike_is : gram_same k own other i j ≡ alike k fs (a, b)
+  pub alike_is : gram_same k own other i j ≡ alike k fs (a, b)
   alike_is = rw (here, there, left, right) refl
 
   pub alike_yes : SameGrams k own other i j → alike k fs (a, b) ≡ true

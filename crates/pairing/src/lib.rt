@@ -4,6 +4,7 @@
 #![tactic(auto)]
 
 mod groups;
+mod held;
 mod pairs;
 pub mod report;
 mod scope;

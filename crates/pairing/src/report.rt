@@ -10,13 +10,14 @@ ghost use Rattle.model.specs.Passages.{no_passage};
 ghost use Rattle.model.specs.Calls.{reported, pairs_outcome};
 ghost use Rattle.pairing.specs.Groups.{crossed, group_pairs};
 ghost use Rattle.pairing.specs.Tallies.{no_counts, Ready, Counted};
-ghost use Rattle.pairing.specs.Scopes.{files, Fit};
+ghost use Rattle.pairing.specs.Scopes.{files};
 
-use crate::groups::{OfOthers, count_while, first_group};
+use crate::groups::{first_group, others_first, own_first};
+use crate::held::HeldFiles;
 use crate::pairs::meet;
-use crate::scope::{Scope, held_tokens};
+use crate::scope::Scope;
 use model::answers::Reported;
-use model::fingerprint::{Fingerprint, OfFile};
+use model::fingerprint::Fingerprint;
 use model::passage::Passage;
 use model::refusal::{Reason, Refusal};
 use model::table::Entry;
@@ -32,13 +33,13 @@ fn meet_all<V: Order>(
     list: &mut [Passage],
     mut counts: Reported,
 ) -> Option<Reported>
-    requires { (Fit scope) × ((((x : Fingerprint V) → In x own.now → x.file ≡ scope.number)) × (Ready list.old counts)) }
+    requires own { (x : Fingerprint V) → In x own.now → x.file ≡ scope.number }
+    requires ready { Ready list.old counts }
     ensures { Counted scope.entry.k (files scope.entry) (crossed before.now own.now after.now) list.old counts list.new result }
 {
-    for i in 0..own.len() {
-        let a = own[i];
-        counts = meet(scope, a, before, list, counts)?;
-        counts = meet(scope, a, after, list, counts)?;
+    for a in own {
+        counts = meet(scope, *a, before, list, counts)?;
+        counts = meet(scope, *a, after, list, counts)?;
     }
     Some(counts)
 }
@@ -51,11 +52,11 @@ fn meet_group<V: Order>(
     list: &mut [Passage],
     counts: Reported,
 ) -> Option<Reported>
-    requires { (Fit scope) × (Ready list.old counts) }
+    requires { Ready list.old counts }
     ensures { Counted scope.entry.k (files scope.entry) (group_pairs scope.entry.number group.now) list.old counts list.new result }
 {
-    let low = count_while(group, &OfOthers(scope.number));
-    let high = low + count_while(&group[low..], &OfFile(scope.number));
+    let low = others_first(group, scope.number);
+    let high = low + own_first(&group[low..], scope.number);
     meet_all(
         scope,
         &group[0..low],
@@ -68,14 +69,9 @@ fn meet_group<V: Order>(
 
 // Walks over the index, group by group.
 fn walk<V: Order>(scope: Scope, index: &[Fingerprint<V>], list: &mut [Passage]) -> Option<Reported>
-    requires { Fit scope }
     ensures { Rising (by_fields V.Ord.cmp) index.now → Counted scope.entry.k (files scope.entry) (index_pairs V.Ord.cmp scope.entry.number index.now) list.old no_counts list.new result }
 {
-    let mut counts = Reported {
-        passages: 0,
-        pairs: 0,
-        differing: 0,
-    };
+    let mut counts = Reported::default();
     let mut at = 0;
     while at < index.len() {
         let end = at + first_group(&index[at..]);
@@ -89,7 +85,7 @@ fn walk<V: Order>(scope: Scope, index: &[Fingerprint<V>], list: &mut [Passage]) 
 fn clear(list: &mut [Passage])
     ensures { list.new ≡ replicate (length list.old) no_passage }
 {
-    list.fill(Passage::none());
+    list.fill(Passage::default());
 }
 
 // Writes the passages of the file of that number with all other files into the list, rising, and counts its pairs. Behind the passages,
@@ -102,17 +98,19 @@ pub fn report<'a, V: Order>(
     k: usize,
     list: &mut [Passage],
 ) -> Result<Reported, Refusal>
-    requires { (extent table.now ≤ length tokens.now) × ((length tokens.now ≤ 1048576) × ((length index.now ≤ 1048576) × (1 ≤ k))) }
+    requires within { extent table.now ≤ length tokens.now }
+    requires few { (length tokens.now ≤ 1048576) × (length index.now ≤ 1048576) }
+    requires some { 1 ≤ k }
     ensures long { length list.new ≡ length list.old }
     ensures outcome { Rising (by_fields V.Ord.cmp) index.now → reported result list.new ≡ pairs_outcome (known number (cut table.now tokens.now)) k (cut table.now tokens.now) (index_pairs V.Ord.cmp number index.now) (length list.old) }
 {
     clear(list);
-    let Some(own) = held_tokens(tokens, table, number) else {
+    let held = HeldFiles { tokens, table };
+    let Some(own) = held.tokens_of(number) else {
         return Err(Refusal::plain(Reason::ReportUnheld));
     };
     let scope = Scope {
-        tokens,
-        table,
+        held,
         number,
         own,
         k,

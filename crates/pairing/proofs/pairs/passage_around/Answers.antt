@@ -7,4 +7,4 @@ pub returns : goal.returns
 returns c =
     let xs = c.args.xs.now in
     let ys = c.args.ys.now in
-    ap (passage c.args.other xs ys) (sym (c.grow-run.ensures.only (grown c.args.k xs ys c.args.i c.args.j) (grown_around c.args.k xs ys c.args.i c.args.j c.requires.0 c.requires.1.1.1)))
+    ap (passage c.args.other xs ys) (sym (c.grow-run.ensures.only (grown c.args.k xs ys c.args.i c.args.j) (grown_around c.args.k xs ys c.args.i c.args.j c.requires.some c.requires.same)))

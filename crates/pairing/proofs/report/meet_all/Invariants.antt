@@ -4,5 +4,5 @@ use Rattle.pairing.specs.Scopes.{files}
 use Rattle.pairing.specs.Tallies.{Tallied}
 use Rattle.pairing.proofs.report.meet_all.Given as goal
 
-abbrev pub invariant-loop-i : goal.invariant-loop-i
-invariant-loop-i g l = Tallied l.scope.k (files l.scope) (crossed l.before (take l.i l.own) l.after) l.initial.list l.initial.counts l.list l.counts
+abbrev pub invariant-loop-a : goal.invariant-loop-a
+invariant-loop-a g l = Tallied l.scope.k (files l.scope) (crossed l.before (take l.a-index l.own) l.after) l.initial.list l.initial.counts l.list l.counts

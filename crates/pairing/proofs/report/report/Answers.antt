@@ -17,7 +17,7 @@ returns-in-Some-walk g c =
       long = c.walk.auto.list ∙ c.clear.auto.list;
       outcome = λ r.
           rw c.in-Some.ensures.0
-          (granted c.args.k fs (index_pairs cmp c.args.number index) c.clear.new.list (length c.args.list.now) c.clear.ensures (pairs_fit cmp c.args.number index c.requires.1.1.0)
+          (granted c.args.k fs (index_pairs cmp c.args.number index) c.clear.new.list (length c.args.list.now) c.clear.ensures (pairs_fit cmp c.args.number index c.requires.few.1)
           c.walk.new.list c.in-Some-walk.counts (c.in-Some-walk.ensures r));
     }
 

@@ -1,4 +1,6 @@
-use Rattle.std.proofs.Common.{arith, rules}
+use Rattle.std.proofs.Common.{◌≡◌, arith, rules}
+use Rattle.model.specs.declared.answers.Reported.{Reported}
+use Rattle.pairing.specs.Tallies.{no_counts}
 use Rattle.pairing.specs.Scopes.{files}
 use Rattle.pairing.proofs.Walked.{walked_none, walked_all, walked_more, walked_full}
 use Rattle.pairing.proofs.report.walk.Goals as goal
@@ -22,4 +24,5 @@ returns g c r =
 pub loop-at-init : goal.loop-at-init
 loop-at-init g c =
     let s = c.args.scope in
-    (omega arith, walked_none g.V.Ord.cmp s.number s.k (files s) c.args.index.now c.args.list.now _ (search rules))
+    let zeros : ◌≡◌ {A = Reported} c.default-counts.result no_counts = search rules in
+    (omega arith, rw zeros (walked_none g.V.Ord.cmp s.number s.k (files s) c.args.index.now c.args.list.now _ (search rules)))

@@ -1,10 +1,11 @@
 use Rattle.std.proofs.Common.{◌-◌, ◌≤◌, length}
 use Rattle.pairing.specs.Scopes.{files}
+use Rattle.pairing.specs.Tallies.{no_counts}
 use Rattle.pairing.proofs.Walked.{Walked}
 use Rattle.pairing.proofs.report.walk.Given as goal
 
 abbrev pub invariant-loop-at : goal.invariant-loop-at
-invariant-loop-at g l = (l.at ≤ length l.index) × Walked g.V.Ord.cmp l.scope.number l.scope.k (files l.scope) l.index l.at l.initial.list l.initial.counts l.list l.counts
+invariant-loop-at g l = (l.at ≤ length l.index) × Walked g.V.Ord.cmp l.scope.number l.scope.k (files l.scope) l.index l.at l.initial.list no_counts l.list l.counts
 
 abbrev pub decreases-loop-at : goal.decreases-loop-at
 decreases-loop-at g l = length l.index - l.at
