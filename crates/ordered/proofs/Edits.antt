@@ -1,20 +1,22 @@
 -- A rising list with one record more, or without one or those that a test names. Assumes nothing.
 use Rattle.std.proofs.Common.{◌≡◌, ℕ, suc, ◌+◌, ◌-◌, ◌<◌, ◌≤◌, Bool, true, false, cond, not, ◌⊎◌, List, [], ◌∷◌, ◌++◌, length, get_or, take, drop, set, Ok, Err, filter, Result, Ordering, Less, Greater, sym, refl, ap, ◌∙◌, subst, inl, inr, ⊎_elim, add-one, arith, MatchResult}
 use Rattle.std.specs.List.{insert, remove}
-use Rattle.std.specs.Ordering.{ordering_reverse}
-use Rattle.std.proofs.lemmas.List.{take-append-drop, length-drop, length-take, length-take-le, get_or-take, get_or-drop, drop_more}
+use Rattle.std.specs.Ordering.{is_lt, ordering_reverse, ordering_index}
+use Rattle.std.specs.List.Sorted.{IsNonDecreasingBy, IsSearchInRange, IsBinarySearchResult}
+use Rattle.std.proofs.lemmas.List.{take-append-drop, length-drop, length-take, length-take-le, length-set, get_or-take, get_or-drop, take_more, take_more_set, drop_more, drop-set-lt}
 use Rattle.std.proofs.lemmas.Bool.{not-true, not_from_false, not_from_true}
 use Rattle.order.specs.Total.{TotalOrder}
 use Rattle.order.specs.Listed.{In, Rising, ListsExactly}
 use Rattle.order.specs.Compared.{not_itself}
-use Rattle.order.proofs.Bridges.{in_has}
+use Rattle.order.proofs.Bridges.{in_has, rising_push}
 use Rattle.order.proofs.Joins.{append_in, in_left, in_right, rising_append}
 use Rattle.order.proofs.Members.{in_kept, kept_passes, kept_in}
 use Rattle.order.proofs.Rises.{rising_kept}
-use Rattle.ordered.specs.Found.{lies_before, Cut, Seat, Stands}
-use Rattle.ordered.proofs.Places.{cut_lower, cut_upper, cut_not_less}
+use Rattle.ordered.specs.Found.{Cut, Seat, Stands}
+use Rattle.ordered.proofs.Places.{steady_index, steady_at, cut_lower, cut_not_less}
 use Rattle.ordered.proofs.Moves.{put_front, put_rest, out_front, out_rest}
-use Rattle.ordered.specs.Edited.{PutIn, Already, Missed, TakenOut, Thinned}
+use Rattle.ordered.specs.Edited.{PutIn, Already, Missed, TakenOut, Fewer, Thinned}
+use Rattle.std.specs.Fn.{Called, AlwaysReturns, Mut}
 use Rattle.std.proofs.lemmas.List.Filters.{FiltersInPlace, FiltersInPlace-more_no, FiltersInPlace-more_set}
 
 module _ {X : Type 0} where
@@ -64,7 +66,7 @@ module _ {X : Type 0} {cmp : X → X → Ordering} (o : TotalOrder cmp) where
   pub cut_steady : (x a b : X) → cmp a b ≡ Less → (cmp b x ≡ Less → cmp a x ≡ Less) × (cmp a x ≡ Greater → cmp b x ≡ Greater)
   cut_steady x a b l = (λ h. o.trans a b x l h, λ h. o.flip b x ∙ ap ordering_reverse (o.trans x a b (greater_less x a h) l))
 
-  module _ (xs : List X) (i : ℕ) (x : X) (c : Rising cmp xs) (f : Cut (λ y. lies_before false (cmp y x)) xs i) where
+  module _ (xs : List X) (i : ℕ) (x : X) (c : Rising cmp xs) (f : Cut (λ y. is_lt (cmp y x)) xs i) where
     -- a search for x itself: what stands before its place is less
     pub below_cut : (y : X) → In y (take i xs) → cmp y x ≡ Less
     below_cut = each_take (λ y. cmp y x ≡ Less) i xs (λ k d h l. cut_lower (λ y. cmp y x) (cut_steady x) xs c i f k d h)
@@ -72,9 +74,18 @@ module _ {X : Type 0} {cmp : X → X → Ordering} (o : TotalOrder cmp) where
     pub not_below_cut : (y : X) → In y (drop i xs) → cmp y x ≡ Less → ⊥
     not_below_cut = each_drop (λ y. cmp y x ≡ Less → ⊥) i xs (λ k d h l. cut_not_less (λ y. cmp y x) (cut_steady x) xs c i f k d h l)
 
-    -- and what stands from its place on is greater, unless x stands there
-    pub above_cut : (i < length xs → (d : X) → get_or xs i d ≡ x → ⊥) → (y : X) → In y (drop i xs) → cmp x y ≡ Less
-    above_cut gone = each_drop (λ y. cmp x y ≡ Less) i xs (λ k d h l. greater_less x (get_or xs k d) (cut_upper (λ y. cmp y x) (cut_steady x) xs c i f k d (λ lt e. gone lt d (o.equal (get_or xs i d) x e)) h l))
+  -- what std's binary search answers on a rising list
+  module _ (xs : List X) (x : X) where
+    answers_rise : Rising cmp xs → IsNonDecreasingBy (λ y. ordering_index (cmp y x)) xs
+    answers_rise c i j d h k = steady_index _ _ (steady_at (λ y. cmp y x) (cut_steady x) xs c i j d h k)
+
+    pub found : (r : Result ℕ ℕ) → IsSearchInRange r (length xs) → IsBinarySearchResult (λ y. cmp y x) xs r → MatchResult r (λ i. Stands xs i x) (λ i. Seat cmp xs i x)
+    found (Ok i) b h = (b, λ d. o.equal (get_or xs i d) x (h d))
+    found (Err i) b h = record {
+      within = b;
+      below = λ c. each_take (λ y. cmp y x ≡ Less) i xs (λ k d lt l. (h (answers_rise c)).0 k d (omega arith) lt);
+      above = λ c. each_drop (λ y. cmp x y ≡ Less) i xs (λ k d le l. greater_less x (get_or xs k d) ((h (answers_rise c)).1 k d le l));
+    }
 
   module _ (xs : List X) (i : ℕ) (x : X) (s : Seat cmp xs i x) (c : Rising cmp xs) where
     pub not_there : In x xs → ⊥
@@ -112,16 +123,6 @@ kept_lists cmp test xs c = record {
   only = λ y m. (kept_in (λ z. not (test z)) xs y m, not-true (test y) (kept_passes (λ z. not (test z)) xs y m));
   every = λ y m. in_kept (λ z. not (test z)) xs y m.0 (not_from_false (test y) m.1);
 }
-
--- the first n as a part of the slice
-pub front : {X : Type 0} (n : ℕ) (xs : List X) → take (n - 0) xs ≡ take n xs
-front n xs = let e : n - 0 ≡ n = omega arith in ap (λ k. take k xs) e
-
-pub stands_front : {X : Type 0} (n : ℕ) (xs : List X) (i : ℕ) (x : X) → Stands (take (n - 0) xs) i x → Stands (take n xs) i x
-stands_front n xs i x h = subst (λ l. Stands l i x) (front n xs) h
-
-pub seat_front : {X : Type 0} {cmp : X → X → Ordering} (n : ℕ) (xs : List X) (i : ℕ) (x : X) → Seat cmp (take (n - 0) xs) i x → Seat cmp (take n xs) i x
-seat_front {X} {cmp} n xs i x h = subst (λ l. Seat cmp l i x) (front n xs) h
 
 pub stands_within : {X : Type 0} (n : ℕ) (xs : List X) (i : ℕ) (x : X) → Stands (take n xs) i x → (i < n) × ((d : X) → get_or xs i d ≡ x)
 stands_within n xs i x h =
@@ -165,9 +166,9 @@ module _ {X : Type 0} {cmp : X → X → Ordering} (o : TotalOrder cmp) (xs : Li
         lists = λ c. subst (λ l. ListsExactly cmp l (λ y. In y (take n xs) × (x ≡ y → ⊥))) (sym list) (out_lists o (take n xs) i x c (omega arith) (λ d. get_or-take n xs i d lt ∙ s.is d));
       }
 
-pub seated : {X : Type 0} {cmp : X → X → Ordering} (o : TotalOrder cmp) (xs : List X) (n : ℕ) (x : X) (r : Result ℕ ℕ) → MatchResult r (λ i. Stands (take (n - 0) xs) i x) (λ i. Seat cmp (take (n - 0) xs) i x) → MatchResult r (λ i. Already xs xs n i x) (λ i. Seat cmp (take n xs) i x × Missed cmp xs xs n x)
-seated o xs n x (Ok i) h = already o xs n i x (stands_front n xs i x h)
-seated o xs n x (Err i) h = let s = seat_front n xs i x h in (s, missed o xs n i x s)
+pub seated : {X : Type 0} {cmp : X → X → Ordering} (o : TotalOrder cmp) (xs : List X) (n : ℕ) (x : X) (r : Result ℕ ℕ) → MatchResult r (λ i. Stands (take n xs) i x) (λ i. Seat cmp (take n xs) i x) → MatchResult r (λ i. Already xs xs n i x) (λ i. Seat cmp (take n xs) i x × Missed cmp xs xs n x)
+seated o xs n x (Ok i) h = already o xs n i x h
+seated o xs n x (Err i) h = (h, missed o xs n i x h)
 
 pub thinned : {X : Type 0} (cmp : X → X → Ordering) (test : X → Bool) (xs ys : List X) (n left i : ℕ) → FiltersInPlace (λ y. not (test y)) xs ys left i → i ≡ n → Thinned cmp test xs ys n left
 thinned cmp test xs ys n left i k e =
@@ -180,7 +181,58 @@ thinned cmp test xs ys n left i k e =
       lists = λ c. subst (λ l. ListsExactly cmp l (λ y. In y (take n xs) × (test y ≡ false))) (sym list) (kept_lists cmp test (take n xs) c);
     }
 
--- one record more looked at: `named` says whether the test names it
-pub keeping_by : {X : Type 0} (test : X → Bool) {xs ys zs : List X} {left i r : ℕ} {x : X} (named : Bool) → FiltersInPlace (λ y. not (test y)) xs ys left i → i < length ys → named ≡ test x → x ≡ get_or ys i x → r ≡ cond named left (left + 1) → zs ≡ cond named ys (set ys left x) → FiltersInPlace (λ y. not (test y)) xs zs r (i + 1)
-keeping_by test {xs} {ys} {zs} {left} {i} {r} {x} true k lt t e f g = subst (λ q. FiltersInPlace (λ y. not (test y)) xs zs q (i + 1)) (sym f) (subst (λ l. FiltersInPlace (λ y. not (test y)) xs l left (i + 1)) (sym g) (FiltersInPlace-more_no k lt (not_from_true (test x) (sym t)) e))
-keeping_by test {xs} {ys} {zs} {left} {i} {r} {x} false k lt t e f g = subst (λ q. FiltersInPlace (λ y. not (test y)) xs zs q (i + 1)) (sym f) (subst (λ l. FiltersInPlace (λ y. not (test y)) xs l (left + 1) (i + 1)) (sym g) (FiltersInPlace-more_set k lt (not_from_false (test x) (sym t)) e))
+-- some of the first i of `before` stand in the first k places of `after`, in their order, and from i on nothing is changed
+pub record Keeping {X : Type 0} (cmp : X → X → Ordering) (before after : List X) (k i : ℕ) : Type 0 where
+  pub behind : k ≤ i
+  pub within : i ≤ length before
+  pub long : length after ≡ length before
+  pub rest : drop i after ≡ drop i before
+  pub only : (y : X) → In y (take k after) → In y (take i before)
+  pub rises : Rising cmp (take i before) → Rising cmp (take k after)
+
+pub keeping_none : {X : Type 0} (cmp : X → X → Ordering) (xs : List X) → Keeping cmp xs xs 0 0
+keeping_none cmp xs = record { behind = omega arith; within = omega arith; long = refl; rest = refl; only = λ y m. m; rises = λ c. c }
+
+module _ {X : Type 0} {cmp : X → X → Ordering} {xs ys : List X} {k i : ℕ} {x : X} (h : Keeping cmp xs ys k i) (lt : i < length ys) (e : x ≡ get_or ys i x) where
+  both : x ∷ drop (i + 1) ys ≡ get_or xs i x ∷ drop (i + 1) xs
+  both = ap (λ y. y ∷ drop (i + 1) ys) e ∙ sym (drop_more ys i x lt) ∙ h.rest ∙ drop_more xs i x (omega (arith, h.long))
+
+  read : get_or xs i x ≡ x
+  read = sym (ap (λ l. get_or l 0 x) both)
+
+  one_more : take (i + 1) xs ≡ take i xs ++ x ∷ []
+  one_more = take_more xs i x (omega (arith, h.long)) ∙ ap (λ y. take i xs ++ y ∷ []) read
+
+  split : Rising cmp (take (i + 1) xs) → Rising cmp (take i xs) × ((y : X) → In y (take i xs) → cmp y x ≡ Less)
+  split c = let s = rising_split cmp (take i xs) (x ∷ []) (subst (Rising cmp) one_more c) in (s.0, λ y m. s.2 y x m (inl refl))
+
+  -- x is taken out
+  pub keeping_out : Keeping cmp xs ys k (i + 1)
+  keeping_out = record {
+    behind = omega (arith, h.behind);
+    within = omega (arith, h.long);
+    long = h.long;
+    rest = ap (drop 1) both;
+    only = λ y m. subst (In y) (sym one_more) (in_left (take i xs) (x ∷ []) y (h.only y m));
+    rises = λ c. h.rises (split c).0;
+  }
+
+  -- x is kept
+  pub keeping_in : Keeping cmp xs (set ys k x) (k + 1) (i + 1)
+  keeping_in =
+      let kept : take (k + 1) (set ys k x) ≡ take k ys ++ x ∷ [] = take_more_set ys k x (omega (arith, h.behind)) in
+      record {
+        behind = omega (arith, h.behind);
+        within = omega (arith, h.long);
+        long = length-set ys k x ∙ h.long;
+        rest = drop-set-lt (i + 1) ys k x (omega (arith, h.behind)) ∙ ap (drop 1) both;
+        only = λ y m. subst (In y) (sym one_more) (⊎_elim (λ a. in_left (take i xs) (x ∷ []) y (h.only y a)) (in_right (take i xs) (x ∷ []) y) (append_in (take k ys) (x ∷ []) y (subst (In y) kept m)));
+        rises = λ c. subst (Rising cmp) (sym kept) (rising_push cmp (take k ys) x (h.rises (split c).0) (λ y m. (split c).1 y (h.only y m)));
+      }
+
+pub kept_fewer : {X : Type 0} {cmp : X → X → Ordering} {xs ys : List X} {n left i : ℕ} → i ≡ n → Keeping cmp xs ys left i → Fewer cmp xs ys n left
+kept_fewer {X} {cmp} {xs} {ys} {n} {left} e h = subst (λ m. Fewer cmp xs ys m left) e record { fewer = h.behind; rest = h.rest; only = h.only; rises = h.rises }
+
+-- a call answers by the function, and so do those after it
+pub answers_next : {F X R : Type 0} (g : Mut F X R) {P : X → R → Type 0} (f : F) (a : X) (r : R) (f' : F) → Called g f a r f' → AlwaysReturns g P f → P a r × AlwaysReturns g P f'
+answers_next g f a r f' c h = ((h.at (a ∷ []) r f' c).0, record { at = λ xs. (h.at (a ∷ xs) r f' c).1 })

@@ -6,7 +6,8 @@ use Rattle.order.specs.Listed.{In, Rising, ListsExactly}
 use Rattle.order.specs.Compared.{by_answer}
 use Rattle.order.proofs.Joins.{append_in, in_left, in_right, rising_append}
 use Rattle.order.proofs.Bridges.{in_at}
-use Rattle.ordered.specs.Found.{lies_before, Cut}
+use Rattle.std.specs.Ordering.{is_lt}
+use Rattle.ordered.specs.Found.{Cut}
 use Rattle.ordered.specs.Edited.{PutIn, Already}
 use Rattle.ordered.specs.Gathered.{moved, turned, InEither, Merged, Parting, Joined, Grown}
 use Rattle.ordered.proofs.Edits.{rising_split, greater_less, below_cut, not_below_cut}
@@ -65,7 +66,7 @@ module _ {X : Type 0} {cmp : X → X → Ordering} (o : TotalOrder cmp) where
       by_answer (cmp y v) (λ e. absurd (f e)) (λ e. subst (λ w. cmp z w ≡ Less) (sym (o.equal y v e)) l) (λ e. o.trans z v y l (greater_less o v y e))
 
   -- one list is parted at v, which stands at k in the other
-  module _ (U V : List X) (c k : ℕ) (v : X) (ru : Rising cmp U) (rv : Rising cmp V) (f : Cut (λ y. lies_before false (cmp y v)) U c) (lt : k < length V) (e : get_or V k v ≡ v) where
+  module _ (U V : List X) (c k : ℕ) (v : X) (ru : Rising cmp U) (rv : Rising cmp V) (f : Cut (λ y. is_lt (cmp y v)) U c) (lt : k < length V) (e : get_or V k v ≡ v) where
     from_v : drop k V ≡ v ∷ drop (k + 1) V
     from_v = drop_more V k v lt ∙ ap (λ w. w ∷ drop (k + 1) V) e
 
@@ -142,12 +143,12 @@ module _ {X : Type 0} {cmp : X → X → Ordering} (o : TotalOrder cmp) (xs : Li
   all_of_it = let e : a + b - a ≡ b = omega arith in ap (λ k. take k (drop a xs)) e
 
   -- the first list is the longer: v stands in its middle
-  pub parting_left : (j : ℕ) → b ≤ a → v ≡ get_or xs (a / 2) v → Cut (λ y. lies_before false (cmp y v)) (take (a + b - a) (drop a xs)) j → Parting cmp xs a b (a / 2) j
+  pub parting_left : (j : ℕ) → b ≤ a → v ≡ get_or xs (a / 2) v → Cut (λ y. is_lt (cmp y v)) (take (a + b - a) (drop a xs)) j → Parting cmp xs a b (a / 2) j
   parting_left j le e f =
       let i = a / 2 in
       let A = take a xs in
       let B = take b (drop a xs) in
-      let c : Cut (λ y. lies_before false (cmp y v)) B j = subst (λ l. Cut (λ y. lies_before false (cmp y v)) l j) all_of_it f in
+      let c : Cut (λ y. is_lt (cmp y v)) B j = subst (λ l. Cut (λ y. is_lt (cmp y v)) l j) all_of_it f in
       let long = second_long in
       let jb : j ≤ b = let q = c.within in omega arith in
       let la' = length-take-le a xs (omega arith) in
@@ -162,24 +163,22 @@ module _ {X : Type 0} {cmp : X → X → Ordering} (o : TotalOrder cmp) (xs : Li
       }
 
   -- the second list is the longer
-  pub parting_right : (i : ℕ) → a < b → v ≡ get_or xs (a + b / 2) v → Cut (λ y. lies_before false (cmp y v)) (take (a - 0) xs) i → Parting cmp xs a b i (b / 2)
+  pub parting_right : (i : ℕ) → a < b → v ≡ get_or xs (a + b / 2) v → Cut (λ y. is_lt (cmp y v)) (take a xs) i → Parting cmp xs a b i (b / 2)
   parting_right i le e f =
       let j = b / 2 in
       let A = take a xs in
       let B = take b (drop a xs) in
-      let whole : take (a - 0) xs ≡ A = let z : a - 0 ≡ a = omega arith in ap (λ k. take k xs) z in
-      let c : Cut (λ y. lies_before false (cmp y v)) A i = subst (λ l. Cut (λ y. lies_before false (cmp y v)) l i) whole f in
       let long = second_long in
       let la' = length-take-le a xs (omega arith) in
-      let ia : i ≤ a = let q = c.within in omega arith in
+      let ia : i ≤ a = let q = f.within in omega arith in
       let at : get_or B j v ≡ v = get_or-take b (drop a xs) j v (omega arith) ∙ get_or-drop a xs j v ∙ sym e in
       record {
         left = ia;
         right = omega arith;
         some = omega arith;
         not_all = omega arith;
-        low_left = λ ra rb x y m n. low_cut o A B i j v ra rb c (omega arith) at x y (subst (In x) (sym (take-take i a xs ia)) m) n;
-        low_right = λ ra rb x y m n. low_held o A B i j v ra rb c (omega arith) at x y (subst (In x) (sym (take-take j b (drop a xs) (omega arith))) m) n;
+        low_left = λ ra rb x y m n. low_cut o A B i j v ra rb f (omega arith) at x y (subst (In x) (sym (take-take i a xs ia)) m) n;
+        low_right = λ ra rb x y m n. low_held o A B i j v ra rb f (omega arith) at x y (subst (In x) (sym (take-take j b (drop a xs) (omega arith))) m) n;
       }
 
 -- what a join says, with names for its two lists

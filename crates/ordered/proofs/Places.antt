@@ -1,10 +1,12 @@
 -- What a rising list gives at each place, and the records of a key. Assumes nothing.
-use Rattle.std.proofs.Common.{◌≡◌, ℕ, zero, suc, ◌-◌, ◌<◌, ◌≤◌, true, false, List, [], ◌∷◌, length, get_or, Ordering, Less, Equal, Greater, sym, refl, ap, ◌∙◌, ⊎_elim, arith}
+use Rattle.std.proofs.Common.{◌≡◌, ℕ, zero, suc, ◌+◌, ◌-◌, ◌<◌, ◌≤◌, Bool, true, false, List, [], ◌∷◌, length, get_or, Ordering, Less, Equal, Greater, sym, refl, ap, ◌∙◌, ⊎_elim, arith}
+use Rattle.std.proofs.lemmas.List.{get_or_read}
 use Rattle.std.proofs.lemmas.Bool.{cases_eq, cases_lt, true≢false}
 use Rattle.order.specs.Listed.{Rising}
 use Rattle.order.proofs.Bridges.{in_at}
-use Rattle.order.specs.Compared.{by_answer, less≢greater}
-use Rattle.ordered.specs.Found.{Steady, lies_before, Cut, Together}
+use Rattle.order.specs.Compared.{by_answer, less≢equal, less≢greater}
+use Rattle.std.specs.Ordering.{is_lt, is_le, ordering_index, ordering_reverse}
+use Rattle.ordered.specs.Found.{Steady, Cut, Together}
 
 pub rising_at : {X : Type 0} (cmp : X → X → Ordering) (xs : List X) → Rising cmp xs → (i j : ℕ) (d : X) → i < j → j < length xs → cmp (get_or xs i d) (get_or xs j d) ≡ Less
 rising_at cmp [] c i j d h k = absurd (omega arith)
@@ -13,21 +15,50 @@ rising_at cmp (x ∷ xs) c zero (suc j) d h k = c.0 (get_or xs j d) (in_at xs j 
 rising_at cmp (x ∷ xs) c (suc i) (suc j) d h k = rising_at cmp xs c.1 i j d (omega arith) (omega arith)
 
 -- what the tests of the two cuts say
-before_first : (o : Ordering) → lies_before false o ≡ true → o ≡ Less
+before_first : (o : Ordering) → is_lt o ≡ true → o ≡ Less
 before_first Less h = refl
 before_first Equal h = absurd (true≢false (sym h))
 before_first Greater h = absurd (true≢false (sym h))
 
-not_before_first : (o : Ordering) → lies_before false o ≡ false → o ≡ Less → ⊥
-not_before_first o h e = true≢false (ap (lies_before false) (sym e) ∙ h)
+not_before_first : (o : Ordering) → is_lt o ≡ false → o ≡ Less → ⊥
+not_before_first o h e = true≢false (ap is_lt (sym e) ∙ h)
 
-before_last : (o : Ordering) → lies_before true o ≡ true → o ≡ Greater → ⊥
-before_last o h e = true≢false (sym h ∙ ap (lies_before true) e)
+before_last : (o : Ordering) → is_le o ≡ true → o ≡ Greater → ⊥
+before_last o h e = true≢false (sym h ∙ ap is_le e)
 
-not_before_last : (o : Ordering) → lies_before true o ≡ false → o ≡ Greater
+not_before_last : (o : Ordering) → is_le o ≡ false → o ≡ Greater
 not_before_last Less h = absurd (true≢false h)
 not_before_last Equal h = absurd (true≢false h)
 not_before_last Greater h = refl
+
+-- the numbers of the answers do not fall
+pub steady_index : (a b : Ordering) → Steady a b → ordering_index a ≤ ordering_index b
+steady_index Less b s = omega arith
+steady_index Equal Less s = absurd (less≢equal Equal (s.0 refl) refl)
+steady_index Equal Equal s = omega arith
+steady_index Equal Greater s = omega arith
+steady_index Greater Less s = absurd (less≢greater Less refl (s.1 refl))
+steady_index Greater Equal s = absurd (less≢equal Equal (ap ordering_reverse (s.1 refl)) refl)
+steady_index Greater Greater s = omega arith
+
+-- a binary search on its way: the record before `low`, if any, passes the test, and the record at `high`, if any, does not
+pub record Around {X : Type 0} (test : X → Bool) (xs : List X) (low high : ℕ) : Type 0 where
+  pub last : 0 < low → (d : X) → test (get_or xs (low - 1) d) ≡ true
+  pub next : high < length xs → (d : X) → test (get_or xs high d) ≡ false
+
+module _ {X : Type 0} (test : X → Bool) (xs : List X) where
+  pub around_none : Around test xs 0 (length xs)
+  around_none = record { last = λ h. absurd (omega arith); next = λ h. absurd (omega arith) }
+
+  module _ (low mid high : ℕ) (x : X) (h : Around test xs low high) (lt : mid < length xs) (e : x ≡ get_or xs mid x) where
+    pub around_low : test x ≡ true → Around test xs (mid + 1) high
+    around_low t = record { last = λ _ d. let same : mid + 1 - 1 ≡ mid = omega arith in let r = get_or_read xs mid x lt e d in cc; next = h.next }
+
+    pub around_high : test x ≡ false → Around test xs low mid
+    around_high t = record { last = h.last; next = λ _ d. let r = get_or_read xs mid x lt e d in cc }
+
+  pub cut_between : (low high : ℕ) → low ≤ high → high ≤ low → high ≤ length xs → Around test xs low high → Cut test xs low
+  cut_between low high f g le h = let same : low ≡ high = omega arith in record { within = omega arith; last = h.last; next = λ lt d. let e = h.next (omega arith) d in cc }
 
 some : {X P : Type 0} (ys : List X) → (ys ≡ [] → P) → (X → P) → P
 some [] f g = f refl
@@ -40,18 +71,13 @@ module _ {X : Type 0} {cmp : X → X → Ordering} (place : X → Ordering) (ste
       (λ ne. steady (get_or xs i d) (get_or xs j d) (rising_at cmp xs c i j d (omega arith) k)) (cases_eq i j)
 
   -- a search for the first record of a key: what stands before it is less, and where the record at it is not equal, all others are greater
-  pub cut_lower : (i : ℕ) → Cut (λ x. lies_before false (place x)) xs i → (k : ℕ) (d : X) → k < i → place (get_or xs k d) ≡ Less
+  pub cut_lower : (i : ℕ) → Cut (λ x. is_lt (place x)) xs i → (k : ℕ) (d : X) → k < i → place (get_or xs k d) ≡ Less
   cut_lower i f k d h = let w = f.within in (steady_at k (i - 1) d (omega arith) (omega arith)).0 (before_first _ (f.last (omega arith) d))
 
-  pub cut_not_less : (i : ℕ) → Cut (λ x. lies_before false (place x)) xs i → (k : ℕ) (d : X) → i ≤ k → k < length xs → place (get_or xs k d) ≡ Less → ⊥
+  pub cut_not_less : (i : ℕ) → Cut (λ x. is_lt (place x)) xs i → (k : ℕ) (d : X) → i ≤ k → k < length xs → place (get_or xs k d) ≡ Less → ⊥
   cut_not_less i f k d h l e = not_before_first _ (f.next (omega arith) d) ((steady_at i k d h l).0 e)
 
-  pub cut_upper : (i : ℕ) → Cut (λ x. lies_before false (place x)) xs i → (k : ℕ) (d : X) → (i < length xs → place (get_or xs i d) ≡ Equal → ⊥) → i ≤ k → k < length xs → place (get_or xs k d) ≡ Greater
-  cut_upper i f k d gone h l =
-      let lt : i < length xs = omega arith in
-      (steady_at i k d h l).1 (by_answer (place (get_or xs i d)) (λ e. absurd (not_before_first _ (f.next lt d) e)) (λ e. absurd (gone lt e)) (λ e. e))
-
-  module _ (from to : ℕ) (f : Cut (λ x. lies_before false (place x)) xs from) (t : Cut (λ x. lies_before true (place x)) xs to) where
+  module _ (from to : ℕ) (f : Cut (λ x. is_lt (place x)) xs from) (t : Cut (λ x. is_le (place x)) xs to) where
     upper : (k : ℕ) (d : X) → to ≤ k → k < length xs → place (get_or xs k d) ≡ Greater
     upper k d h m = (steady_at to k d h m).1 (not_before_last _ (t.next (omega arith) d))
 
@@ -68,7 +94,7 @@ module _ {X : Type 0} {cmp : X → X → Ordering} (place : X → Ordering) (ste
         let w = f.within in
         ⊎_elim (λ l. absurd (less≢greater _ (cut_lower from f to d l) (upper to d (omega arith) (omega arith)))) (λ h. h) (cases_lt to from)
 
-  pub together : (from to : ℕ) → Cut (λ x. lies_before false (place x)) xs from → Cut (λ x. lies_before true (place x)) xs to → Together place xs from to
+  pub together : (from to : ℕ) → Cut (λ x. is_lt (place x)) xs from → Cut (λ x. is_le (place x)) xs to → Together place xs from to
   together from to f t = record {
     forward = some xs (λ e. let w = f.within in let z : length xs ≡ 0 = ap length e in omega arith) (forward from to f t);
     within = t.within;

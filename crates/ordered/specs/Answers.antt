@@ -9,3 +9,9 @@ abbrev pub AfterInsert : {X : Type 0} → (X → X → Ordering) → List X → 
 AfterInsert cmp before after n x (At i) = PutIn cmp before after n i x
 AfterInsert cmp before after n x (Present i) = Already before after n i x
 AfterInsert cmp before after n x Full = (n ≡ length before) × Missed cmp before after n x
+
+-- how many records more there are after an insertion
+abbrev pub more : Insertion → ℕ
+more (At i) = 1
+more (Present i) = 0
+more Full = 0

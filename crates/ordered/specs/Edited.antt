@@ -31,6 +31,13 @@ pub record TakenOut {X : Type 0} (cmp : X → X → Ordering) (before after : Li
   pub rest : drop n after ≡ drop n before
   pub lists : Rising cmp (take n before) → ListsExactly cmp (take (n - 1) after) (λ y. In y (take n before) × (x ≢ y))
 
+-- some of the first n are left, in their order; the entries past the old records are untouched, those between are free
+pub record Fewer {X : Type 0} (cmp : X → X → Ordering) (before after : List X) (n left : ℕ) : Type 0 where
+  pub fewer : left ≤ n
+  pub rest : drop n after ≡ drop n before
+  pub only : (y : X) → In y (take left after) → In y (take n before)
+  pub rises : Rising cmp (take n before) → Rising cmp (take left after)
+
 -- those that the test does not name are kept, in their order; the entries past the old records are untouched, those between are free
 pub record Thinned {X : Type 0} (cmp : X → X → Ordering) (test : X → Bool) (before after : List X) (n left : ℕ) : Type 0 where
   pub fewer : left ≤ n

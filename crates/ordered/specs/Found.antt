@@ -1,5 +1,5 @@
 -- What a search by a key finds. Assumes nothing.
-use Rattle.std.specs.Prelude.{◌≡◌, ℕ, ◌-◌, ◌<◌, ◌≤◌, Bool, true, false, List, length, take, drop, MatchBool, ◌≢◌, slice_index_or}
+use Rattle.std.specs.Prelude.{◌≡◌, ℕ, ◌-◌, ◌<◌, ◌≤◌, Bool, true, false, List, length, take, drop, slice_index_or}
 use Rattle.std.specs.declared.cmp.Ordering.TheVariants.{Less, Equal, Greater}
 use Rattle.std.specs.declared.cmp.Ordering.{Ordering}
 use Rattle.order.specs.Listed.{In, Rising}
@@ -8,12 +8,6 @@ use Rattle.order.specs.Listed.{In, Rising}
 -- what lies after them comes last
 abbrev pub Steady : Ordering → Ordering → Type 0
 Steady first second = (second ≡ Less → first ≡ Less) × (first ≡ Greater → second ≡ Greater)
-
--- a record less than the key lies before the cut, and where `past` also one that is equal to it
-abbrev pub lies_before : Bool → Ordering → Bool
-lies_before past Less = true
-lies_before past Equal = past
-lies_before past Greater = false
 
 -- a cut: the record before it, if any, passes the test, and the record at it, if any, does not
 pub record Cut {X : Type 0} (test : X → Bool) (xs : List X) (at : ℕ) : Type 0 where
@@ -32,10 +26,6 @@ pub record Together {X : Type 0} (place : X → Ordering) (xs : List X) (from to
 -- x stands at a place
 abbrev pub Stands : {X : Type 0} → List X → ℕ → X → Type 0
 Stands {X} xs k x = (k < length xs) × ((d : X) → slice_index_or xs k d ≡ x)
-
--- whether it does
-abbrev pub StandsAt : {X : Type 0} → Bool → List X → ℕ → X → Type 0
-StandsAt {X} r xs k x = MatchBool r (Stands xs k x) (k < length xs → (d : X) → slice_index_or xs k d ≢ x)
 
 -- the place at which x would be put in: where the list rises, x is greater than all before and less than all from there on, so it is none of them
 pub record Seat {X : Type 0} (cmp : X → X → Ordering) (xs : List X) (i : ℕ) (x : X) : Type 0 where

@@ -1,3 +1,4 @@
+pub mod Rises
 pub mod Found
 pub mod Edited
 pub mod Answers

@@ -10,7 +10,8 @@ use std::cmp::Ordering;
 
 // Copies the records from `from` on to `to` on.
 fn copy_part<T: Order>(xs: &mut [T], from: usize, count: usize, to: usize)
-    requires { (from + count ≤ length xs.old) × (to + count ≤ length xs.old) }
+    requires source { from + count ≤ length xs.old }
+    requires target { to + count ≤ length xs.old }
     ensures { xs.new ≡ moved xs.old from count to }
 {
     if from != to {
@@ -34,18 +35,18 @@ fn write_larger<T: Order>(xs: &mut [T], w: usize, x: T, y: T) -> Ordering
     ensures after { xs.new ≡ slice_set xs.old w (larger result x y) }
 {
     let answer = x.cmp(&y);
-    match answer {
-        Ordering::Less => xs[w] = y,
-        Ordering::Equal => xs[w] = x,
-        Ordering::Greater => xs[w] = x,
-    }
+    xs[w] = match answer {
+        Ordering::Less => y,
+        Ordering::Equal | Ordering::Greater => x,
+    };
     answer
 }
 
 // Merges the first a records with b others that stand at `at` and on, largest first, so that no record is written over before it is read.
 // Of two equal ones one is kept.
 fn merge<T: Order>(xs: &mut [T], a: usize, b: usize, at: usize) -> usize
-    requires { (a + b ≤ at) × (at + b ≤ length xs.old) }
+    requires apart { a + b ≤ at }
+    requires within { at + b ≤ length xs.old }
     ensures { Merged T.Ord.cmp xs.old xs.new a b at result }
 {
     let mut i = a;
@@ -83,7 +84,9 @@ struct Halves {
 
 // The longer list is parted in its middle, and the other by a search for the record there.
 fn halve<T: Order>(xs: &[T], a: usize, b: usize) -> Halves
-    requires { (0 < a) × (1 < b) × (a + b ≤ length xs.now) }
+    requires first { 0 < a }
+    requires second { 1 < b }
+    requires within { a + b ≤ length xs.now }
     ensures { Parting T.Ord.cmp xs.now a b result.i result.j }
 {
     if b <= a {
@@ -92,7 +95,7 @@ fn halve<T: Order>(xs: &[T], a: usize, b: usize) -> Halves
         Halves { i, j }
     } else {
         let j = b / 2;
-        let i = lower_bound(&xs[0..a], &Exactly(xs[a + j]));
+        let i = lower_bound(&xs[..a], &Exactly(xs[a + j]));
         Halves { i, j }
     }
 }
@@ -113,7 +116,8 @@ fn insert_next<T: Order>(xs: &mut [T], n: usize) -> usize
 // The first a records and the b behind them, both rising, become one rising list. What stands from `at` on is free room. Where it holds
 // the b records, they are moved there and merged. Else both lists are parted, and the parts joined on their own.
 fn join<T: Order>(xs: &mut [T], a: usize, b: usize, at: usize) -> usize
-    requires { (a + b ≤ at) × (at ≤ length xs.old) }
+    requires apart { a + b ≤ at }
+    requires within { at ≤ length xs.old }
     ensures { Joined T.Ord.cmp xs.old xs.new a b at result }
 {
     if a == 0 || b == 0 {
@@ -153,7 +157,8 @@ fn insert_each<T: Order>(xs: &mut [T], n: usize) -> usize
 
 // The first n records become a rising list, each half on its own first. What stands from `at` on is free room.
 fn sort<T: Order>(xs: &mut [T], n: usize, at: usize) -> usize
-    requires { (n ≤ at) × (at ≤ length xs.old) }
+    requires apart { n ≤ at }
+    requires within { at ≤ length xs.old }
     ensures { Sorted T.Ord.cmp xs.old xs.new n at result }
 {
     if n <= FEW {
@@ -175,29 +180,12 @@ fn take_in<T: Order>(xs: &mut [T], n: usize, m: usize) -> usize
     join(xs, n, b, n + m)
 }
 
-// As far as the part reaches that an insertion of m records behind n uses: m entries past them, or all that are there.
-fn reach(len: usize, n: usize, m: usize) -> usize
-    requires { n + m ≤ len }
-    ensures within { (n + m ≤ result) × (result ≤ len) × (result ≤ n + m + m) }
-    ensures room { n + m + m ≤ len → result ≡ n + m + m }
-{
-    if m <= len - (n + m) { n + m + m } else { len }
-}
-
-// The same in the part before `end`.
-fn take_in_part<T: Order>(list: &mut [T], n: usize, m: usize, end: usize) -> usize
-    requires { (n + m ≤ end) × (end ≤ length list.old) × (end ≤ n + m + m) }
-    ensures { AllIn T.Ord.cmp list.old list.new n m result }
-{
-    take_in(&mut list[0..end], n, m)
-}
-
 // The m records behind the first n, which rise, become part of the list in one go, and the answer is how many there are then: of equal
 // records one is kept. Where another m entries are free they serve as room; the entries past these are untouched.
 pub fn insert_all<T: Order>(list: &mut [T], n: usize, m: usize) -> usize
     requires { n + m ≤ length list.old }
     ensures { AllIn T.Ord.cmp list.old list.new n m result }
 {
-    let end = reach(list.len(), n, m);
-    take_in_part(list, n, m, end)
+    let end = n + m + m.min(list.len() - (n + m));
+    take_in(&mut list[..end], n, m)
 }

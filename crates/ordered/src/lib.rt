@@ -7,4 +7,5 @@
 pub mod batch;
 pub mod edit;
 pub mod insertion;
+pub mod list;
 pub mod search;

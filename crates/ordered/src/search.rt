@@ -1,16 +1,19 @@
 // Binary searches: by a key, which is a leading part of the records' order, and for a whole record.
-ghost use Rattle.std.specs.Prelude.{◌≡◌, ◌≤◌, true, false, length, MatchResult};
+ghost use Rattle.std.specs.Prelude.{◌≡◌, ◌≤◌, Bool, length, MatchResult};
+ghost use Rattle.std.specs.Fn.{ComputesKey};
+ghost use Rattle.std.specs.Ordering.{is_lt, is_le};
 ghost use Rattle.std.specs.declared.cmp.Ordering.TheVariants.{Less};
 ghost use Rattle.std.specs.declared.cmp.Ordering.{Ordering};
 ghost use Rattle.order.specs.Listed.{Rising};
-ghost use Rattle.ordered.specs.Found.{Steady, lies_before, Cut, Together, Stands, StandsAt, Seat};
+ghost use Rattle.ordered.specs.Found.{Steady, Cut, Together, Stands, Seat};
 ghost use Rattle.std.proofs.Common.{rules};
 
 use order::Order;
 use std::cmp::Ordering;
+use std::ops::Range;
 
 // A leading part of the records' order. `place` says where a record stands: Less before all records of this key, Equal at them,
-// Greater after them.
+// Greater after them. A trait and no closure, since each key owes the law `steady`, which a closure can't carry.
 pub trait Key<T: Order> {
     ghost places: { Self → T → Ordering };
 
@@ -21,7 +24,7 @@ pub trait Key<T: Order> {
 }
 
 // A whole record as a key.
-#[derive(Clone, Copy)]
+#[derive(Clone, Copy, PartialEq, Eq, Debug)]
 pub struct Exactly<T>(pub T);
 
 impl<T: Order> Key<T> for Exactly<T> {
@@ -34,32 +37,17 @@ impl<T: Order> Key<T> for Exactly<T> {
     }
 }
 
-// The records from `from` on and before `to`.
-#[derive(Clone, Copy)]
-pub struct Span {
-    pub from: usize,
-    pub to: usize,
-}
-
-fn before(o: Ordering, past: bool) -> bool
-    ensures { result ≡ lies_before past o }
-{
-    match o {
-        Ordering::Less => true,
-        Ordering::Equal => past,
-        Ordering::Greater => false,
-    }
-}
-
-// Where the records of the key begin, or where `past`, where they end. Halves the list in each turn.
-fn cut<T: Order, K: Key<T>>(list: &[T], key: &K, past: bool) -> usize
-    ensures { Cut (λ x. lies_before past (K.Key.places key.now x)) list.now result }
+// The first place whose record does not pass the test. By hand, since std's `partition_point` says nothing of a list in which a record
+// that passes comes after one that does not, and this stands next to such records in any list.
+fn cut<T, F: FnMut(&T) -> bool>(list: &[T], mut test: F) -> usize
+    requires { F.IsAlwaysCallable test }
+    ensures { (before : T → Bool) → ComputesKey F.FnMut before test → Cut before list.now result }
 {
     let mut low = 0;
     let mut high = list.len();
     while low < high {
         let mid = low + (high - low) / 2;
-        if before(key.place(&list[mid]), past) {
+        if test(&list[mid]) {
             low = mid + 1;
         } else {
             high = mid;
@@ -70,50 +58,30 @@ fn cut<T: Order, K: Key<T>>(list: &[T], key: &K, past: bool) -> usize
 
 // The first place whose record is not less than the key.
 pub fn lower_bound<T: Order, K: Key<T>>(list: &[T], key: &K) -> usize
-    ensures { Cut (λ x. lies_before false (K.Key.places key.now x)) list.now result }
+    ensures { Cut (λ x. is_lt (K.Key.places key.now x)) list.now result }
 {
-    cut(list, key, false)
+    cut(list, |x| key.place(x).is_lt())
 }
 
 // The first place whose record is greater than the key.
 pub fn upper_bound<T: Order, K: Key<T>>(list: &[T], key: &K) -> usize
-    ensures { Cut (λ x. lies_before true (K.Key.places key.now x)) list.now result }
+    ensures { Cut (λ x. is_le (K.Key.places key.now x)) list.now result }
 {
-    cut(list, key, true)
+    cut(list, |x| key.place(x).is_le())
 }
 
-// The records of the key: where the list rises they stand together, from `from` to before `to`.
-pub fn range<T: Order, K: Key<T>>(list: &[T], key: &K) -> Span
-    ensures within { (result.from ≤ length list.now) × (result.to ≤ length list.now) }
-    ensures together { Rising T.Ord.cmp list.now → Together (K.Key.places key.now) list.now result.from result.to }
+// The places of the records of the key: where the list rises they stand together.
+pub fn range<T: Order, K: Key<T>>(list: &[T], key: &K) -> Range<usize>
+    ensures start { result.start ≤ length list.now }
+    ensures end { result.end ≤ length list.now }
+    ensures together { Rising T.Ord.cmp list.now → Together (K.Key.places key.now) list.now result.start result.end }
 {
-    Span {
-        from: lower_bound(list, key),
-        to: upper_bound(list, key),
-    }
-}
-
-// Whether x stands at the place.
-fn stands_at<T: Order>(list: &[T], place: usize, x: &T) -> bool
-    ensures { StandsAt result list.now place x.now }
-{
-    if place >= list.len() {
-        return false;
-    }
-    match list[place].cmp(x) {
-        Ordering::Equal => true,
-        _ => false,
-    }
+    lower_bound(list, key)..upper_bound(list, key)
 }
 
 // Where x stands, or in an Err where it would be put in.
 pub fn find<T: Order>(list: &[T], x: T) -> Result<usize, usize>
     ensures { MatchResult result (λ i. Stands list.now i x) (λ i. Seat T.Ord.cmp list.now i x) }
 {
-    let i = lower_bound(list, &Exactly(x));
-    if stands_at(list, i, &x) {
-        Ok(i)
-    } else {
-        Err(i)
-    }
+    list.binary_search(&x)
 }

@@ -4,7 +4,7 @@ use Rattle.ordered.proofs.batch.merge.Goals as goal
 use Rattle.ordered.proofs.batch.merge.Goals.{then-loop-i-test+else-j-gt0, else-loop-i-test}
 
 pub loop-i-init : goal.loop-i-init
-loop-i-init g c = halfway_none g.T.Ord.cmp c.args.xs.now c.args.a c.args.b c.args.at c.requires.0 c.requires.1
+loop-i-init g c = halfway_none g.T.Ord.cmp c.args.xs.now c.args.a c.args.b c.args.at c.requires.apart c.requires.within
 
 pub loop-i-preserved-in-Less : goal.loop-i-preserved-in-Less
 loop-i-preserved-in-Less g c =

@@ -5,5 +5,5 @@ use Rattle.ordered.proofs.edit.close.Goals as goal
 
 pub returns : goal.returns
 returns g c x s =
-    taken_out g.met.T.Order.total c.args.list.now c.args.n c.args.i x c.copy_within.new.self c.requires.1 s
-    (c.copy_within.ensures.after ∙ moved_down c.args.list.now c.args.n c.args.i c.requires.0 c.requires.1)
+    taken_out g.met.T.Order.total c.args.list.now c.args.n c.args.i x c.copy_within.new.self c.requires.within s
+    (c.copy_within.ensures.after ∙ moved_down c.args.list.now c.args.n c.args.i c.requires.place c.requires.within)

@@ -1,24 +1,36 @@
-use Rattle.std.proofs.Common.{◌≡◌, ◌+◌, ◌-◌, ◌/◌, ◌<◌, length, arith}
-use Rattle.std.proofs.lemmas.List.{get_or_read}
+use Rattle.std.proofs.Common.{◌+◌, ◌-◌, ◌/◌, sym, ◌∙◌, of_calls, arith}
+use Rattle.ordered.proofs.Places.{around_none, around_low, around_high, cut_between}
+use Rattle.ordered.proofs.Edits.{answers_next}
 use Rattle.ordered.proofs.search.cut.Goals as goal
 
-pub loop-low-preserved-then-before : goal.loop-low-preserved-then-before
-loop-low-preserved-then-before g c =
+pub loop-low-init : goal.loop-low-init
+loop-low-init g c = (search of_calls, omega arith, omega arith, λ before by. (by, around_none before c.args.list.now))
+
+pub loop-low-preserved-then-test : goal.loop-low-preserved-then-test
+loop-low-preserved-then-test g c =
     let mid = c.loop-low.low + (c.loop-low.high - c.loop-low.low) / 2 in
-    let lt : mid < length c.args.list.now = omega arith in
-    let same : mid + 1 - 1 ≡ mid = omega arith in
-    (omega arith, omega arith, λ _ d. let e = get_or_read c.args.list.now mid c.index-list-mid.result lt c.index-list-mid.is d in cc, c.loop-low.invariant.3)
+    (
+      search of_calls,
+      omega arith,
+      omega arith,
+      λ before by.
+          let f = c.loop-low.invariant.3 before by in
+          let next = answers_next g.F.FnMut _ _ _ _ c.test.ensures f.0 in
+          (next.1, around_low before c.args.list.now c.loop-low.low mid c.loop-low.high c.index-list-mid.result f.1 (omega arith) c.index-list-mid.is (sym next.0 ∙ c.if-test.true)),
+    )
 
 pub loop-low-preserved : goal.loop-low-preserved
 loop-low-preserved g c =
     let mid = c.loop-low.low + (c.loop-low.high - c.loop-low.low) / 2 in
-    (omega arith, omega arith, c.loop-low.invariant.2, λ lt d. let e = get_or_read c.args.list.now mid c.index-list-mid.result lt c.index-list-mid.is d in cc)
+    (
+      search of_calls,
+      omega arith,
+      omega arith,
+      λ before by.
+          let f = c.loop-low.invariant.3 before by in
+          let next = answers_next g.F.FnMut _ _ _ _ c.test.ensures f.0 in
+          (next.1, around_high before c.args.list.now c.loop-low.low mid c.loop-low.high c.index-list-mid.result f.1 (omega arith) c.index-list-mid.is (sym next.0 ∙ c.if-test.false)),
+    )
 
 pub returns : goal.returns
-returns g c =
-    let same : c.loop-low.low ≡ c.loop-low.high = omega arith in
-    record {
-      within = omega arith;
-      last = c.loop-low.invariant.2;
-      next = λ lt d. let e = c.loop-low.invariant.3 (omega arith) d in cc;
-    }
+returns g c before by = cut_between before c.args.list.now c.loop-low.low c.loop-low.high (omega arith) (omega arith) (omega arith) (c.loop-low.invariant.3 before by).1

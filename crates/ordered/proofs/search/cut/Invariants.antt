@@ -1,14 +1,15 @@
-use Rattle.std.proofs.Common.{◌≡◌, ◌-◌, ◌<◌, ◌≤◌, true, false, length, get_or}
-use Rattle.ordered.specs.Found.{lies_before}
+use Rattle.std.proofs.Common.{◌≡◌, ◌-◌, ◌<◌, ◌≤◌, Bool, true, false, length, get_or}
+use Rattle.std.specs.Fn.{ComputesKey}
+use Rattle.ordered.proofs.Places.{Around}
 use Rattle.ordered.proofs.search.cut.Given as goal
 
--- the record before `low` lies before the cut, and the one at `high` does not
+-- the record before `low` passes the test, and the one at `high` does not
 abbrev pub invariant-loop-low : goal.invariant-loop-low
 invariant-loop-low g l =
-    (l.low ≤ l.high)
+    goal.F-IsAlwaysCallable g l.test
+    × (l.low ≤ l.high)
     × (l.high ≤ length l.list)
-    × (0 < l.low → (d : g.row.T.Denot) → lies_before l.past (g.K.Key.places l.key (get_or l.list (l.low - 1) d)) ≡ true)
-    × (l.high < length l.list → (d : g.row.T.Denot) → lies_before l.past (g.K.Key.places l.key (get_or l.list l.high d)) ≡ false)
+    × ((before : g.row.T.Denot → Bool) → ComputesKey g.F.FnMut before l.initial.test → ComputesKey g.F.FnMut before l.test × Around before l.list l.low l.high)
 
 abbrev pub decreases-loop-low : goal.decreases-loop-low
 decreases-loop-low g l = l.high - l.low
