@@ -1,9 +1,7 @@
-// Entries of lent slices: wiped, zeroed, moved and listed.
+// Entries of lent slices: wiped, moved and listed.
 ghost use Rattle.std.specs.Prelude.{◌≡◌, ◌+◌, ◌-◌, ◌≤◌, ◌++◌, map, length, take, drop, replicate};
 ghost use Rattle.runs.specs.Shares.{unused};
-ghost use Rattle.model.specs.Passages.{no_passage};
 
-use model::passage::Passage;
 use model::table::Entry;
 use tokens::token::{Class, Token};
 
@@ -27,18 +25,6 @@ pub fn wipe(tokens: &mut [Token], from: usize)
     tokens[from..].fill(unused_token());
 }
 
-pub fn zero_passages(list: &mut [Passage])
-    ensures { list.new ≡ replicate (length list.old) no_passage }
-{
-    list.fill(Passage::none());
-}
-
-pub fn zero_numbers(list: &mut [u16])
-    ensures { list.new ≡ replicate (length list.old) 0 }
-{
-    list.fill(0);
-}
-
 // Moves the entries from `at + len` up to, without, `end` down by `len`.
 pub fn close_gap<T: Copy>(xs: &mut [T], at: usize, len: usize, end: usize)
     requires { (at + len ≤ end) × (end ≤ length xs.old) }
@@ -52,7 +38,7 @@ pub fn write_numbers(table: &[Entry], list: &mut [u16])
     requires { length table.now ≤ length list.old }
     ensures { list.new ≡ map (λ e. e.number) table.now ++ drop (length table.now) list.old }
 {
-    for i in 0..table.len() {
-        list[i] = table[i].number;
+    for (i, entry) in table.iter().enumerate() {
+        list[i] = entry.number;
     }
 }
