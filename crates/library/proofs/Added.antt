@@ -1,7 +1,7 @@
 -- What an Add answers and leaves.
-use Rattle.std.proofs.Common.{◌≡◌, ℕ, ◌+◌, ◌-◌, ◌<◌, ◌≤◌, Bool, true, false, cond, eqb, ltb, leb, List, [], ◌∷◌, ◌++◌, map, length, take, drop, set, replicate, is_some, is_err, Some, None, Ok, Err, Option, Ordering, sym, refl, ap, ◌∙◌, subst, ap₂, ⊎_elim, append_assoc, arith, ltb-false, leb-false}
+use Rattle.std.proofs.Common.{◌≡◌, ℕ, ◌+◌, ◌-◌, ◌<◌, ◌≤◌, Bool, true, false, cond, eqb, ltb, leb, List, [], ◌∷◌, ◌++◌, map, length, take, drop, replicate, is_some, is_err, Some, None, Ok, Err, Option, Ordering, sym, refl, ap, ◌∙◌, subst, ap₂, ⊎_elim, append_assoc, arith, ltb-false, leb-false}
 use borrow.Author.Tests.{both_ways}
-use Rattle.std.proofs.lemmas.List.{length-take-le, take-append-drop, take_at, drop_at, drop-replicate, take_more_set, length-append, length-take, length-drop, length-map, length-set}
+use Rattle.std.proofs.lemmas.List.{length-take-le, take-append-drop, take_at, drop_at, drop-replicate, length-append, length-take, length-drop, length-map}
 use Rattle.std.proofs.lemmas.Bool.{cases_Bool}
 use Rattle.order.specs.Total.{TotalOrder}
 use Rattle.tokens.specs.declared.token.Token.{Token}
@@ -27,10 +27,9 @@ use Rattle.indexing.proofs.Counts.{index_count}
 use Rattle.indexing.proofs.Index.{index_added}
 use Rattle.model.proofs.Held.{distinct_push}
 use Rattle.library.specs.declared.filed.Taken.{Taken}
-use Rattle.library.specs.declared.store.Store.{Store}
-use Rattle.library.specs.Stores.{Shape, Sound, Same, Kept, Step, live, files, setting}
+use Rattle.library.specs.Stores.{State, Shape, Sound, Same, Kept, Step, files, setting}
 use Rattle.library.specs.Adding.{admit_refusal, taking_refusal, behind, early, TakenIn}
-use Rattle.library.proofs.Stays.{stays, file_count}
+use Rattle.library.proofs.Stays.{stays}
 
 -- ---- the refusals in order
 
@@ -112,12 +111,10 @@ took_few cmp number ts e ps used tokens tokens' prints index index' x taken =
     (λ w k. absurd (let z : false ≡ true = ap is_err (taken.refuses w k).0 in both_ways false refl z))
 
 -- where nothing but the lists' contents changed
-pub shape_like : {H V : Type 0} (s t : Store H V) → Shape s → t.table ≡ s.table → t.count ≡ s.count → t.used ≡ s.used → t.prints ≡ s.prints → Kept s t → Shape t
-shape_like s t h tb c u p k =
+pub shape_like : {V : Type 0} (s t : State V) → Shape s → t.table ≡ s.table → t.used ≡ s.used → t.prints ≡ s.prints → Kept s t → Shape t
+shape_like s t h tb u p k =
     record {
-      few = rw c h.few;
-      whole = rw tb h.whole;
-      full = rw (u, c, tb) h.full;
+      full = rw (u, tb) h.full;
       within = rw (u, k.room) h.within;
       room = rw k.room h.room;
       places = rw k.places h.places;
@@ -128,14 +125,14 @@ shape_like s t h tb c u p k =
       most = rw k.run h.most;
     }
 
-module _ {H V : Type 0} (value : List ℕ → V) (cmp : V → V → Ordering) (s : Store H V) (h : Shape s) (n : ℕ) (ts : List Token) (e : Option Fault) (work : ℕ) where
+module _ {V : Type 0} (value : List ℕ → V) (cmp : V → V → Ordering) (s : State V) (h : Shape s) (n : ℕ) (ts : List Token) (e : Option Fault) (work : ℕ) where
   pub refused_early : (r : Refusal) → admit_refusal (files s) n (s.t - s.k + 1) work ≡ Some r → Step value cmp s s (add n ts e work) (added (Err r))
   refused_early r a =
       let why = in_two_parts (setting value cmp s) (files s) n ts e work in
       stays value cmp s (add n ts e work) (added (Err r)) (rw (why, a) refl) (λ _. rw (why, a) refl)
 
   tokens_held : length (held_tokens (files s)) ≡ s.used
-  tokens_held = let f = h.full in let w = h.within in ap length (held_cut (live s) s.tokens.now) ∙ length-take-le (extent (live s)) s.tokens.now (omega arith) ∙ sym f
+  tokens_held = let f = h.full in let w = h.within in ap length (held_cut s.table s.tokens.now) ∙ length-take-le (extent s.table) s.tokens.now (omega arith) ∙ sym f
 
   abbrev chosen : List (Placed V)
   chosen = winnowed value cmp s.k (s.t - s.k + 1) (codes ts)
@@ -154,10 +151,10 @@ module _ {H V : Type 0} (value : List ℕ → V) (cmp : V → V → Ordering) (s
           ∙ ap₂ (λ (x y : ℕ). taking_refusal (length s.tokens.now - x) (length s.index.now - y) ts e (length chosen)) tokens_held prints_held
 
     -- ---- refused
-    module _ (t : Store H V) (tokens' : List Token) (index' : List (Fingerprint V)) (why : Refusal) (kept : Kept s t)
+    module _ (t : State V) (tokens' : List Token) (index' : List (Fingerprint V)) (why : Refusal) (kept : Kept s t)
         (taken : TakenIn cmp n ts e chosen s.used s.tokens.now tokens' s.prints s.index.now index' (Err why))
         (tokens : t.tokens.now ≡ take s.used tokens' ++ replicate (length tokens' - s.used) unused) (index : t.index.now ≡ index')
-        (table : t.table ≡ s.table) (count : t.count ≡ s.count) (used : t.used ≡ s.used) (prints : t.prints ≡ s.prints) where
+        (table : t.table ≡ s.table) (used : t.used ≡ s.used) (prints : t.prints ≡ s.prints) where
       late_is : late ≡ Some why
       late_is =
           by_option late
@@ -175,7 +172,6 @@ module _ {H V : Type 0} (value : List ℕ → V) (cmp : V → V → Ordering) (s
                 tokens ∙ ap₂ ◌++◌ taken.front (ap (λ (x : ℕ). replicate (x - s.used) unused) r ∙ sym q.clear) ∙ take-append-drop s.used s.tokens.now;
             index = index ∙ (taken.refuses why late_is).1;
             table = table;
-            count = count;
             used = used;
             prints = prints;
           }
@@ -185,7 +181,7 @@ module _ {H V : Type 0} (value : List ℕ → V) (cmp : V → V → Ordering) (s
           record {
             told = λ q.
                 let m = all_same q in
-                let fs : files t ≡ files s = rw (m.count, m.table, m.tokens) refl in
+                let fs : files t ≡ files s = rw (m.table, m.tokens) refl in
                 let r = refusal_is q ∙ late_is in
                 record {
                   answers = rw r refl;
@@ -202,11 +198,11 @@ module _ {H V : Type 0} (value : List ℕ → V) (cmp : V → V → Ordering) (s
           }
 
     -- ---- granted
-    module _ (t : Store H V) (tokens' : List Token) (index' : List (Fingerprint V)) (x : Taken) (kept : Kept s t)
+    module _ (t : State V) (tokens' : List Token) (index' : List (Fingerprint V)) (x : Taken) (kept : Kept s t)
         (taken : TakenIn cmp n ts e chosen s.used s.tokens.now tokens' s.prints s.index.now index' (Ok x))
         (tokens : t.tokens.now ≡ tokens') (index : t.index.now ≡ index')
-        (table : t.table ≡ set s.table s.count (record { number = n; len = x.len }))
-        (count : t.count ≡ s.count + 1) (used : t.used ≡ s.used + x.len) (prints : t.prints ≡ x.prints) where
+        (table : t.table ≡ s.table ++ record { number = n; len = x.len } ∷ [])
+        (used : t.used ≡ s.used + x.len) (prints : t.prints ≡ x.prints) where
       late_none : late ≡ None
       late_none = by_option late (λ k. k) (λ y k. absurd (let z : false ≡ true = ap is_err (taken.refuses y k).0 in both_ways false refl z))
 
@@ -222,17 +218,11 @@ module _ {H V : Type 0} (value : List ℕ → V) (cmp : V → V → Ordering) (s
       pub fits : s.used + length ts ≤ length s.tokens.now
       fits = (taken.grants late_none).6
 
-      few : s.count < 64
-      few = let b = few_files (files s) n (s.t - s.k + 1) work a in let c = file_count s h in omega arith
-
       abbrev entry : Entry
       entry = record { number = n; len = length ts }
 
-      live_more : live t ≡ live s ++ entry ∷ []
-      live_more =
-          let l = few in
-          let w = h.whole in
-          ap₂ take count (table ∙ ap (λ (y : ℕ). set s.table s.count (record { number = n; len = y })) len_is) ∙ take_more_set s.table s.count entry (omega arith)
+      one_more : t.table ≡ s.table ++ entry ∷ []
+      one_more = table ∙ ap (λ (y : ℕ). s.table ++ record { number = n; len = y } ∷ []) len_is
 
       tokens_are : t.tokens.now ≡ take s.used s.tokens.now ++ (ts ++ drop (length ts) (drop s.used s.tokens.now))
       tokens_are = tokens ∙ (taken.grants late_none).5
@@ -241,13 +231,12 @@ module _ {H V : Type 0} (value : List ℕ → V) (cmp : V → V → Ordering) (s
       files_more =
           let u = h.full in
           let w = h.within in
-          let is : t.tokens.now ≡ take (extent (live s)) s.tokens.now ++ (ts ++ drop (length ts) (drop s.used s.tokens.now)) = tokens_are ∙ ap (λ (y : ℕ). take y s.tokens.now ++ (ts ++ drop (length ts) (drop s.used s.tokens.now))) u in
-          ap (λ (es : List Entry). cut es t.tokens.now) live_more
-          ∙ cut_added (live s) s.tokens.now t.tokens.now ts (drop (length ts) (drop s.used s.tokens.now)) n (omega arith) is
+          let is : t.tokens.now ≡ take (extent s.table) s.tokens.now ++ (ts ++ drop (length ts) (drop s.used s.tokens.now)) = tokens_are ∙ ap (λ (y : ℕ). take y s.tokens.now ++ (ts ++ drop (length ts) (drop s.used s.tokens.now))) u in
+          ap (λ (es : List Entry). cut es t.tokens.now) one_more
+          ∙ cut_added s.table s.tokens.now t.tokens.now ts (drop (length ts) (drop s.used s.tokens.now)) n (omega arith) is
 
       pub shape_more : Shape t
       shape_more =
-          let l = few in
           let f = fits in
           let i = len_is in
           let u = h.full in
@@ -256,11 +245,8 @@ module _ {H V : Type 0} (value : List ℕ → V) (cmp : V → V → Ordering) (s
           let g = (taken.grants late_none).7 in
           let all = (taken.grants late_none).4.fewer in
           let same : (taken.grants late_none).0.prints ≡ x.prints = ap (λ (y : Taken). y.prints) got in
-          let w = h.whole in
           record {
-            few = rw count (omega arith);
-            whole = ap length table ∙ length-set s.table s.count (record { number = n; len = x.len }) ∙ w;
-            full = used ∙ ap₂ (λ (y z : ℕ). y + z) u i ∙ sym (extent_added (live s) entry) ∙ ap extent (sym live_more);
+            full = used ∙ ap₂ (λ (y z : ℕ). y + z) u i ∙ sym (extent_added s.table entry) ∙ ap extent (sym one_more);
             within = omega arith;
             room = rw r h.room;
             places = rw p h.places;

@@ -1,6 +1,6 @@
 -- What the lists hold after any list of calls.
-use Rattle.std.proofs.Common.{◌≡◌, ℕ, ◌-◌, ◌≤◌, min, List, [], ◌++◌, length, take, drop, replicate, Ordering, sym, refl, ap, ◌∙◌, subst, ap₂, append-nil, arith}
-use Rattle.std.proofs.lemmas.List.{take-append-drop, length-take-le, length-replicate, drop_at, drop_all, take-append-le, length-take}
+use Rattle.std.proofs.Common.{◌≡◌, ℕ, ◌-◌, ◌≤◌, min, List, [], ◌++◌, length, take, drop, replicate, Ordering, sym, ap, ◌∙◌, subst, ap₂, append-nil, arith}
+use Rattle.std.proofs.lemmas.List.{take-append-drop, length-take-le, length-replicate, drop_at, drop_all, take_all, take-append-le, length-take}
 use Rattle.order.specs.Total.{TotalOrder}
 use Rattle.order.specs.Listed.{In, ListsExactly}
 use Rattle.order.proofs.Joins.{in_joined, joined_in}
@@ -19,8 +19,7 @@ use Rattle.promises.specs.Promises.{Answered}
 use Rattle.promises.proofs.Pairing.{print_at, prints_in, in_prints}
 use Rattle.promises.proofs.Promising.{promised}
 use Rattle.promises.proofs.Telling.{answered}
-use Rattle.library.specs.declared.store.Store.{Store}
-use Rattle.library.specs.Stores.{Shape, Sound, Steps, live, files, setting}
+use Rattle.library.specs.Stores.{State, Shape, Sound, Opened, Steps, files, setting}
 use Rattle.library.specs.Running.{setting_over, IsPrint, Ran}
 
 -- ---- a fingerprint of the held files is a chosen place of one of them with its value
@@ -50,12 +49,12 @@ module _ {V : Type 0} (S : Scheme V) (o : TotalOrder S.cmp) (fs : Files) where
 
 -- ---- the lists
 
-module _ {H V : Type 0} (value : List ℕ → V) {cmp : V → V → Ordering} (o : TotalOrder cmp) (s : Store H V) (h : Shape s) (q : Sound value cmp s) where
+module _ {V : Type 0} (value : List ℕ → V) {cmp : V → V → Ordering} (o : TotalOrder cmp) (s : State V) (h : Shape s) (q : Sound value cmp s) where
   abbrev S : Scheme V
   S = scheme value cmp s.k s.t
 
   held_front : held_tokens (files s) ≡ take s.used s.tokens.now
-  held_front = held_cut (live s) s.tokens.now ∙ ap (λ (n : ℕ). take n s.tokens.now) (sym h.full)
+  held_front = held_cut s.table s.tokens.now ∙ ap (λ (n : ℕ). take n s.tokens.now) (sym h.full)
 
   pub tokens_are : s.tokens.now ≡ padded (held_tokens (files s)) (length s.tokens.now) unused
   tokens_are =
@@ -77,7 +76,7 @@ module _ {H V : Type 0} (value : List ℕ → V) {cmp : V → V → Ordering} (o
 -- ---- a run
 
 -- over lists that are used whole
-module _ {H V : Type 0} (value : List ℕ → V) {cmp : V → V → Ordering} (o : TotalOrder cmp) (s t : Store H V) (cs : List Asked) (os : List Outcome)
+module _ {V : Type 0} (value : List ℕ → V) {cmp : V → V → Ordering} (o : TotalOrder cmp) (s t : State V) (cs : List Asked) (os : List Outcome)
     (low : 1 ≤ s.k) (least : s.k ≤ s.t) (few-tokens : length s.tokens.now ≤ limit) (few-places : length s.index.now ≤ limit)
     (sound : Sound value cmp s) (none : files s ≡ []) (shape : Shape t) (steps : Steps value cmp s t cs os) where
   abbrev st : Setting V
@@ -114,37 +113,30 @@ module _ {H V : Type 0} (value : List ℕ → V) {cmp : V → V → Ordering} (o
         unchanged = λ all. ((steps.told sound).unchanged all).index;
       }
 
--- a store that holds nothing yet
-module _ {H V : Type 0} (value : List ℕ → V) {cmp : V → V → Ordering} (o : TotalOrder cmp) (s t : Store H V) (cs : List Asked) (os : List Outcome) (tokens : List Token)
-    (low : 1 ≤ s.k) (least : s.k ≤ s.t) (few-tokens : length tokens ≤ limit) (few-places : length s.index.now ≤ limit)
-    (wiped : s.tokens.now ≡ take 0 tokens ++ replicate (length tokens - 0) unused) (no-files : s.count ≡ 0) (no-tokens : s.used ≡ 0) (no-prints : s.prints ≡ 0)
-    (shape : Shape t) (steps : Steps value cmp s t cs os) where
+-- a library that was opened over lists that it uses whole
+module _ {V : Type 0} (value : List ℕ → V) {cmp : V → V → Ordering} (o : TotalOrder cmp) (s t : State V) (cs : List Asked) (os : List Outcome) (k r : ℕ) (tokens : List Token) (index : List (Fingerprint V))
+    (low : 1 ≤ k) (least : k ≤ r) (few-tokens : length tokens ≤ limit) (few-places : length index ≤ limit)
+    (opened : Opened value cmp k r tokens index s) (shape : Shape t) (steps : Steps value cmp s t cs os) where
   long : length tokens ≡ length s.tokens.now
-  long = sym (ap length wiped ∙ length-replicate (length tokens - 0) unused ∙ (let z : length tokens - 0 ≡ length tokens = omega arith in z))
+  long = let l = ap length opened.tokens ∙ length-replicate (min (length tokens) limit) unused in omega arith
 
-  nothing : files s ≡ []
-  nothing = rw no-files refl
+  whole_index : s.index.now ≡ index
+  whole_index = opened.index ∙ take_all (min (length index) limit) index (omega arith)
 
-  new_sound : Sound value cmp s
-  new_sound =
-      let z : length tokens - 0 ≡ length s.tokens.now - s.used = let l = long in omega arith in
-      record {
-        index = rw (no-prints, nothing) refl;
-        distinct = rw nothing tt;
-        clear = rw no-tokens (wiped ∙ ap (λ (n : ℕ). replicate n unused) (let l = long in let y : length tokens - 0 ≡ length s.tokens.now - 0 = omega arith in y));
-      }
-
-  same_setting : setting_over value cmp s.k s.t (length tokens) (length s.index.now) ≡ setting value cmp s
+  same_setting : setting_over value cmp k r (length tokens) (length index) ≡ setting value cmp s
   same_setting =
       let a : min (length tokens) limit ≡ length s.tokens.now = let l = long in omega arith in
-      let b : min (length s.index.now) limit ≡ length s.index.now = omega arith in
-      λ i. record { scheme = scheme value cmp s.k s.t; tokens = a i; index = b i }
+      let b : min (length index) limit ≡ length s.index.now = let l = ap length whole_index in omega arith in
+      λ i. record { scheme = scheme value cmp (sym opened.gram i) (sym opened.run i); tokens = a i; index = b i }
 
   -- us and js are the lists that the caller has then
-  pub ran_over : (us : List Token) (js : List (Fingerprint V)) → us ≡ t.tokens.now → js ≡ t.index.now → Ran (setting_over value cmp s.k s.t (length tokens) (length s.index.now)) cs os tokens us s.index.now js
+  pub ran_over : (us : List Token) (js : List (Fingerprint V)) → us ≡ t.tokens.now → js ≡ t.index.now → Ran (setting_over value cmp k r (length tokens) (length index)) cs os tokens us index js
   ran_over us js a b =
       let l = long in
-      rw (a, b, same_setting) (ran value o s t cs os low least (omega arith) few-places new_sound nothing shape steps tokens long)
+      let i = ap length whole_index in
+      let g = opened.gram in
+      let h = opened.run in
+      rw (a, b, same_setting, ← whole_index) (ran value o s t cs os (omega arith) (omega arith) (omega arith) (omega arith) opened.sound opened.none shape steps tokens long)
 
 le_from_take : {X : Type 0} (n : ℕ) (xs : List X) → length (take n xs) ≡ n → n ≤ length xs
 le_from_take n xs h = let l : length (take n xs) ≡ min n (length xs) = length-take n xs in omega arith

@@ -5,3 +5,4 @@ pub mod Added
 pub mod Reports
 pub mod Runs
 pub mod Ends
+pub mod Shaped

@@ -1,7 +1,7 @@
 -- A file taken out of a store.
-use Rattle.std.proofs.Common.{◌≡◌, ℕ, ◌+◌, ◌-◌, ◌<◌, ◌≤◌, true, false, not, eqb, List, ◌++◌, length, get_or, take, drop, replicate, Ok, Err, Ordering, sym, refl, ap, ◌∙◌, ap₂, append_assoc, arith}
+use Rattle.std.proofs.Common.{◌≡◌, ℕ, ◌+◌, ◌-◌, ◌≤◌, true, false, not, eqb, List, ◌++◌, length, get_or, take, drop, replicate, Ok, Err, Ordering, sym, refl, ap, ◌∙◌, append_assoc, arith}
 use borrow.Author.Tests.{both_ways}
-use Rattle.std.proofs.lemmas.List.{replicate-append-replicate, take_at, drop_at, take-take, drop-drop, drop-take, length-append, length-take, length-take-le, length-drop}
+use Rattle.std.proofs.lemmas.List.{replicate-append-replicate, take_at, drop_at, take-take, drop-drop, length-append, length-take, length-take-le, length-drop}
 use Rattle.tokens.specs.declared.token.Token.{Token}
 use Rattle.runs.specs.Shares.{unused}
 use Rattle.model.specs.declared.table.Entry.{Entry}
@@ -17,10 +17,9 @@ use Rattle.model.proofs.Held.{without_none, distinct_kept}
 use Rattle.model.proofs.Tabled.{extent_within, known_at, known_absent}
 use Rattle.filling.proofs.Surgery.{extent_removed, cut_removed, without_at}
 use Rattle.indexing.proofs.Index.{index_less}
-use Rattle.library.specs.declared.store.Store.{Store}
-use Rattle.library.specs.Stores.{Shape, Sound, Step, live, files}
+use Rattle.library.specs.Stores.{State, Shape, Sound, Step, files}
 use Rattle.library.specs.Removal.{TakenOut}
-use Rattle.library.proofs.Stays.{live_count, stays}
+use Rattle.library.proofs.Stays.{stays}
 
 -- ---- the tokens
 
@@ -50,57 +49,30 @@ module _ (old one w : List Token) (at n u : ℕ) (fits : at + n ≤ u) (in_List 
 
 -- ---- the file that goes
 
-module _ {H V : Type 0} (s : Store H V) (h : Shape s) (n : ℕ) (p : Spot) (f : At n (live s) p) where
+module _ {V : Type 0} (s : State V) (h : Shape s) (n : ℕ) (p : Spot) (f : At n s.table p) where
   pub spot_within : p.start + p.len ≤ s.used
   spot_within =
-      let a = extent_within (live s) p.slot f.within in
+      let a = extent_within s.table p.slot f.within in
       let b = f.starts in
       let c = f.long in
       let d = h.full in
       omega arith
 
-  module _ {cmp : V → V → Ordering} (t : Store H V) (out : TakenOut cmp s t n p) where
-    slot_in : p.slot < s.count
-    slot_in = let a = f.within in let b = live_count s h in omega arith
-
-    -- the entries that stay
-    pub live_less : live t ≡ take p.slot (live s) ++ drop (p.slot + 1) (live s)
-    live_less =
-        let l = slot_in in
-        let a = h.few in
-        let b = h.whole in
-        let m : ℕ = s.count - (p.slot + 1) in
-        let k : p.slot + 1 + m ≡ s.count = omega arith in
-        let front : take p.slot s.table ≡ take p.slot (live s) = sym (take-take p.slot s.count s.table (omega arith)) in
-        let back : take m (drop (p.slot + 1) s.table) ≡ drop (p.slot + 1) (live s) =
-        sym (drop-take (p.slot + 1) m s.table) ∙ ap (λ (x : ℕ). drop (p.slot + 1) (take x s.table)) k in
-        let d : length (drop (p.slot + 1) s.table) ≡ length s.table - (p.slot + 1) = length-drop (p.slot + 1) s.table in
-        let long : length (take p.slot s.table ++ take m (drop (p.slot + 1) s.table)) ≡ s.count - 1 = simp (length-append, length-take) (omega arith) in
-        ap (λ (x : ℕ). take x t.table) out.count ∙ ap (take (s.count - 1)) out.table
-        ∙ take_at (take p.slot s.table ++ take m (drop (p.slot + 1) s.table)) (drop (s.count - 1) s.table) (s.count - 1) long
-        ∙ ap₂ ◌++◌ front back
-
-    extent_less : extent (live t) + p.len ≡ s.used
-    extent_less = ap (λ (x : List Entry). extent x + p.len) live_less ∙ ap (λ (x : ℕ). extent (take p.slot (live s) ++ drop (p.slot + 1) (live s)) + x) f.long ∙ extent_removed (live s) p.slot f.within ∙ sym h.full
+  module _ {cmp : V → V → Ordering} (t : State V) (out : TakenOut cmp s t n p) where
+    extent_less : extent t.table + p.len ≡ s.used
+    extent_less = ap (λ (x : List Entry). extent x + p.len) out.table ∙ ap (λ (x : ℕ). extent (take p.slot s.table ++ drop (p.slot + 1) s.table) + x) f.long ∙ extent_removed s.table p.slot f.within ∙ sym h.full
 
     pub shape_less : Shape t
     shape_less =
-        let l = slot_in in
         let k = out.kept in
         let e = extent_less in
         let u = out.used in
-        let c = out.count in
-        let a = h.few in
-        let b = h.whole in
-        let d : length (drop (p.slot + 1) s.table) ≡ length s.table - (p.slot + 1) = length-drop (p.slot + 1) s.table in
         let kr = k.room in
         let kp = k.places in
         let w = h.within in
         let x = h.indexed in
         let i = out.index.fewer in
         record {
-          few = omega arith;
-          whole = ap length out.table ∙ simp (length-append, length-take, length-drop) (omega arith);
           full = omega arith;
           within = omega arith;
           room = rw kr h.room;
@@ -116,15 +88,15 @@ module _ {H V : Type 0} (s : Store H V) (h : Shape s) (n : ℕ) (p : Spot) (f : 
     files_less d =
         let w = h.within in
         let u = h.full in
-        let start : s.used - (p.start + p.len) ≡ extent (live s) - (extent (take p.slot (live s)) + (get_or (live s) p.slot no_entry).len) = let a = f.starts in let b = f.long in omega arith in
+        let start : s.used - (p.start + p.len) ≡ extent s.table - (extent (take p.slot s.table) + (get_or s.table p.slot no_entry).len) = let a = f.starts in let b = f.long in omega arith in
         let more : List Token = replicate p.len unused ++ drop s.used s.tokens.now in
-        let is : t.tokens.now ≡ take (extent (take p.slot (live s))) s.tokens.now ++ take (extent (live s) - (extent (take p.slot (live s)) + (get_or (live s) p.slot no_entry).len)) (drop (extent (take p.slot (live s)) + (get_or (live s) p.slot no_entry).len) s.tokens.now) ++ more =
+        let is : t.tokens.now ≡ take (extent (take p.slot s.table)) s.tokens.now ++ take (extent s.table - (extent (take p.slot s.table) + (get_or s.table p.slot no_entry).len)) (drop (extent (take p.slot s.table) + (get_or s.table p.slot no_entry).len) s.tokens.now) ++ more =
         rw (sym start, sym f.starts, sym f.long) out.tokens in
-        ap (λ (x : List Entry). cut x t.tokens.now) live_less
-        ∙ cut_removed (live s) p.slot f.within s.tokens.now t.tokens.now more (omega arith) is
-        ∙ sym (without_at (live s) s.tokens.now p.slot d f.within) ∙ ap (λ (x : ℕ). without x (files s)) f.is
+        ap (λ (x : List Entry). cut x t.tokens.now) out.table
+        ∙ cut_removed s.table p.slot f.within s.tokens.now t.tokens.now more (omega arith) is
+        ∙ sym (without_at s.table s.tokens.now p.slot d f.within) ∙ ap (λ (x : ℕ). without x (files s)) f.is
 
-module _ {H V : Type 0} (value : List ℕ → V) {cmp : V → V → Ordering} (o : TotalOrder cmp) (s : Store H V) (h : Shape s) (n : ℕ) (p : Spot) (f : At n (live s) p) (t : Store H V) (out : TakenOut cmp s t n p) where
+module _ {V : Type 0} (value : List ℕ → V) {cmp : V → V → Ordering} (o : TotalOrder cmp) (s : State V) (h : Shape s) (n : ℕ) (p : Spot) (f : At n s.table p) (t : State V) (out : TakenOut cmp s t n p) where
   sound_less : Sound value cmp s → Sound value cmp t
   sound_less q =
       let S : Scheme V = scheme value cmp s.k s.t in
@@ -151,7 +123,7 @@ module _ {H V : Type 0} (value : List ℕ → V) {cmp : V → V → Ordering} (o
 
   pub removed_step : Step value cmp s t (remove n) (removed (Ok tt))
   removed_step =
-      let there : known n (files s) ≡ true = known_at n (live s) s.tokens.now p f in
+      let there : known n (files s) ≡ true = known_at n s.table s.tokens.now p f in
       record {
         told = λ q.
             record {
@@ -163,7 +135,7 @@ module _ {H V : Type 0} (value : List ℕ → V) {cmp : V → V → Ordering} (o
         kept = out.kept;
       }
 
-pub unremoved_step : {H V : Type 0} (value : List ℕ → V) (cmp : V → V → Ordering) (s : Store H V) (n : ℕ) → Absent n (live s) → Step value cmp s s (remove n) (removed (Err (plain RemoveUnheld)))
+pub unremoved_step : {V : Type 0} (value : List ℕ → V) (cmp : V → V → Ordering) (s : State V) (n : ℕ) → Absent n s.table → Step value cmp s s (remove n) (removed (Err (plain RemoveUnheld)))
 unremoved_step value cmp s n a =
-    let none : known n (files s) ≡ false = known_absent n (live s) s.tokens.now a in
+    let none : known n (files s) ≡ false = known_absent n s.table s.tokens.now a in
     stays value cmp s (remove n) (removed (Err (plain RemoveUnheld))) (without_none n (files s) none) (λ _. rw none refl)

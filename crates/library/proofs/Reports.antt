@@ -9,11 +9,10 @@ use Rattle.model.specs.Prints.{by_fields}
 use Rattle.model.specs.Calls.{Outcome, report, pairs_outcome}
 use Rattle.indexing.proofs.Index.{index_rises}
 use Rattle.indexing.proofs.Reports.{report_by_index}
-use Rattle.library.specs.declared.store.Store.{Store}
-use Rattle.library.specs.Stores.{Step, files, setting}
+use Rattle.library.specs.Stores.{State, Step, files, setting}
 use Rattle.library.proofs.Stays.{stays}
 
-pub report_step : {H V : Type 0} (value : List ℕ → V) {cmp : V → V → Ordering} (o : TotalOrder cmp) (s : Store H V) (n room : ℕ) (r : Outcome) →
+pub report_step : {V : Type 0} (value : List ℕ → V) {cmp : V → V → Ordering} (o : TotalOrder cmp) (s : State V) (n room : ℕ) (r : Outcome) →
     (Rising (by_fields cmp) (take s.prints s.index.now) → r ≡ pairs_outcome (known n (files s)) s.k (files s) (index_pairs cmp n (take s.prints s.index.now)) room) →
     Step value cmp s s (report n room) r
 report_step value {cmp} o s n room r h =

@@ -12,21 +12,25 @@ use Rattle.model.specs.Files.{Files, Distinct}
 use Rattle.model.specs.Tables.{cut, extent}
 use Rattle.model.specs.Prints.{index_of}
 use Rattle.model.specs.Calls.{Setting, Asked, Outcome, answer, after, held_after, outcomes, quiet}
-use Rattle.library.specs.declared.store.Store.{Store}
+use Rattle.std.specs.Borrow.{MutBor}
 
--- the table's entries of held files
-abbrev pub live : {H V : Type 0} → Store H V → List Entry
-live s = take s.count s.table
+-- the lists that a library was lent and what of them it uses, the table of its files, and its plan
+pub record State (V : Type 0) : Type 0 where
+  pub tokens : MutBor (List Token)
+  pub used : ℕ
+  pub table : List Entry
+  pub index : MutBor (List (Fingerprint V))
+  pub prints : ℕ
+  pub k : ℕ
+  pub t : ℕ
 
 -- the held files, in order of the Adds
-abbrev pub files : {H V : Type 0} → Store H V → Files
-files s = cut (live s) s.tokens.now
+abbrev pub files : {V : Type 0} → State V → Files
+files s = cut s.table s.tokens.now
 
--- what holds of a store whatever the hash
-pub record Shape {H V : Type 0} (s : Store H V) : Type 0 where
-  pub few : s.count ≤ 64
-  pub whole : length s.table ≡ 64
-  pub full : s.used ≡ extent (live s)
+-- what holds of it whatever the hash
+pub record Shape {V : Type 0} (s : State V) : Type 0 where
+  pub full : s.used ≡ extent s.table
   pub within : s.used ≤ length s.tokens.now
   pub room : length s.tokens.now ≤ limit
   pub places : length s.index.now ≤ limit
@@ -36,19 +40,19 @@ pub record Shape {H V : Type 0} (s : Store H V) : Type 0 where
   pub least : s.k ≤ s.t
   pub most : s.t ≤ 256
 
-module _ {H V : Type 0} (value : List ℕ → V) (cmp : V → V → Ordering) where
-  abbrev pub setting : Store H V → Setting V
+module _ {V : Type 0} (value : List ℕ → V) (cmp : V → V → Ordering) where
+  abbrev pub setting : State V → Setting V
   setting s = record { scheme = scheme value cmp s.k s.t; tokens = length s.tokens.now; index = length s.index.now }
 
   -- what holds of it for the hash: the used part of the index is the index of the held files, no number is held twice, and the free
   -- tokens are unused
-  pub record Sound (s : Store H V) : Type 0 where
+  pub record Sound (s : State V) : Type 0 where
     pub index : take s.prints s.index.now ≡ index_of (scheme value cmp s.k s.t) (files s)
     pub distinct : Distinct (files s)
     pub clear : drop s.used s.tokens.now ≡ replicate (length s.tokens.now - s.used) unused
 
   -- a store that is opened over these lists: nothing is held, the first entries of the lists are used, and all those tokens are unused
-  pub record Opened (k t : ℕ) (ts : List Token) (es : List (Fingerprint V)) (s : Store H V) : Type 0 where
+  pub record Opened (k t : ℕ) (ts : List Token) (es : List (Fingerprint V)) (s : State V) : Type 0 where
     pub sound : Sound s
     pub none : files s ≡ []
     pub gram : s.k ≡ k
@@ -57,16 +61,15 @@ module _ {H V : Type 0} (value : List ℕ → V) (cmp : V → V → Ordering) wh
     pub index : s.index.now ≡ take (min (length es) limit) es
 
 -- the same files, tokens and index, unused entries too
-pub record Same {H V : Type 0} (s t : Store H V) : Type 0 where
+pub record Same {V : Type 0} (s t : State V) : Type 0 where
   pub tokens : t.tokens.now ≡ s.tokens.now
   pub index : t.index.now ≡ s.index.now
   pub table : t.table ≡ s.table
-  pub count : t.count ≡ s.count
   pub used : t.used ≡ s.used
   pub prints : t.prints ≡ s.prints
 
 -- the plan, the lengths of the lists, and which lists they are, stay from the opening on
-pub record Kept {H V : Type 0} (s t : Store H V) : Type 0 where
+pub record Kept {V : Type 0} (s t : State V) : Type 0 where
   pub gram : t.k ≡ s.k
   pub run : t.t ≡ s.t
   pub room : length t.tokens.now ≡ length s.tokens.now
@@ -75,27 +78,27 @@ pub record Kept {H V : Type 0} (s t : Store H V) : Type 0 where
   pub index : t.index.ghost_name ≡ s.index.ghost_name
 
 -- what a call of a sound store answers and leaves
-pub record Told {H V : Type 0} (value : List ℕ → V) (cmp : V → V → Ordering) (s t : Store H V) (c : Asked) (o : Outcome) : Type 0 where
+pub record Told {V : Type 0} (value : List ℕ → V) (cmp : V → V → Ordering) (s t : State V) (c : Asked) (o : Outcome) : Type 0 where
   pub answers : o ≡ answer (setting value cmp s) (files s) c
   pub leaves : files t ≡ after (setting value cmp s) (files s) c
   pub sound : Sound value cmp t
   pub unchanged : quiet o ≡ true → Same s t
 
 -- what one call does
-pub record Step {H V : Type 0} (value : List ℕ → V) (cmp : V → V → Ordering) (s t : Store H V) (c : Asked) (o : Outcome) : Type 0 where
+pub record Step {V : Type 0} (value : List ℕ → V) (cmp : V → V → Ordering) (s t : State V) (c : Asked) (o : Outcome) : Type 0 where
   pub told : Sound value cmp s → Told value cmp s t c o
   pub kept : Kept s t
 
 -- ---- any list of calls
 
 -- what a list of calls of a sound store answers and leaves
-pub record AllTold {H V : Type 0} (value : List ℕ → V) (cmp : V → V → Ordering) (s t : Store H V) (cs : List Asked) (os : List Outcome) : Type 0 where
+pub record AllTold {V : Type 0} (value : List ℕ → V) (cmp : V → V → Ordering) (s t : State V) (cs : List Asked) (os : List Outcome) : Type 0 where
   pub answers : os ≡ outcomes (setting value cmp s) (files s) cs
   pub leaves : files t ≡ held_after (setting value cmp s) (files s) cs
   pub sound : Sound value cmp t
   pub unchanged : AllByRecursion (λ o. quiet o ≡ true) os → Same s t
 
 -- what the calls do
-pub record Steps {H V : Type 0} (value : List ℕ → V) (cmp : V → V → Ordering) (s t : Store H V) (cs : List Asked) (os : List Outcome) : Type 0 where
+pub record Steps {V : Type 0} (value : List ℕ → V) (cmp : V → V → Ordering) (s t : State V) (cs : List Asked) (os : List Outcome) : Type 0 where
   pub told : Sound value cmp s → AllTold value cmp s t cs os
   pub kept : Kept s t

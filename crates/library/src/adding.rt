@@ -4,7 +4,7 @@ ghost use Rattle.prints.specs.Grams.{Coded};
 ghost use Rattle.prints.specs.Walk.{winnowed};
 ghost use Rattle.runs.specs.Passages.{codes};
 ghost use Rattle.model.specs.Calls.{add, added, unless};
-ghost use Rattle.library.specs.Stores.{files, Shape, Step};
+ghost use Rattle.library.specs.Stores.{files, Step};
 ghost use Rattle.library.specs.Adding.{admit_refusal, Indexed, TakenIn, WorkKept};
 
 use crate::filed::{Filed, Taken};
@@ -78,18 +78,19 @@ fn take_in<H: GramHash, S: Source + Drop>(
 }
 
 impl<H: GramHash> Store<'_, '_, H> {
+    ghost use Rattle.library.specs.States.{state};
+
     // What is asked before the source is read.
     fn admits(&self, number: u16, w: usize, work: usize) -> Result<(), Refusal>
-        requires { Shape self.now }
-        ensures { result ≡ unless (admit_refusal (files self.now) number w work) tt }
+        ensures { result ≡ unless (admit_refusal (files (state self.now)) number w work) tt }
     {
         if number == 0 {
             return Err(Refusal::plain(Reason::NumberZero));
         }
-        if find(&self.table[0..self.count], number).is_some() {
+        if find(self.table.as_slice(), number).is_some() {
             return Err(Refusal::plain(Reason::NumberHeld));
         }
-        if self.count >= 64 {
+        if self.table.is_full() {
             return Err(Refusal::plain(Reason::TooManyFiles));
         }
         if work < w {
@@ -104,21 +105,18 @@ impl<H: GramHash> Store<'_, '_, H> {
         source: S,
         work: &mut [Placed<H::Value>],
     ) -> Result<Added, Refusal>
-        requires { Shape self.old }
-        ensures shape { Shape self.new }
-        ensures step { Step H.GramHash.value H.Value.Ord.cmp self.old self.new (add number (S.Source.tokens source) (S.Source.ending source) (length work.old)) (added result) }
+        ensures step { Step H.GramHash.value H.Value.Ord.cmp (state self.old) (state self.new) (add number (S.Source.tokens source) (S.Source.ending source) (length work.old)) (added result) }
         ensures work { WorkKept result work.old work.new }
     {
-        let k = self.k;
-        let w = self.t - k + 1;
+        let k = self.plan.k;
+        let w = self.plan.t - k + 1;
         self.admits(number, w, work.len())?;
         let used = self.used;
-        let count = self.count;
         let prints = self.prints;
         match take_in::<H, S>(
-            &mut self.tokens,
+            self.tokens,
             used,
-            &mut self.index,
+            self.index,
             prints,
             number,
             source,
@@ -131,11 +129,10 @@ impl<H: GramHash> Store<'_, '_, H> {
                 Err(refusal)
             }
             Ok(file) => {
-                self.table[count] = Entry {
+                self.table.push(Entry {
                     number,
                     len: file.len,
-                };
-                self.count = count + 1;
+                });
                 self.used = used + file.len;
                 self.prints = file.prints;
                 Ok(Added {

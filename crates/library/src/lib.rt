@@ -2,7 +2,6 @@
 #![tactic(auto)]
 
 mod adding;
-pub mod calls;
 mod filed;
 mod holding;
 pub mod library;

@@ -1,24 +1,95 @@
 // The library.
-ghost use Rattle.std.specs.Prelude.{◌≡◌, ◌≤◌, length};
-ghost use Rattle.model.specs.Tables.{extent};
-ghost use Rattle.library.specs.Stores.{live};
+ghost use Rattle.std.specs.Prelude.{◌≡◌, min, length};
+ghost use Rattle.model.specs.Calls.{add, added, remove, removed, held, listed, report, reported};
+ghost use Rattle.library.specs.Adding.{WorkKept};
 
+use crate::plan::Plan;
 use crate::store::Store;
+use model::answers::{Added, Reported};
+use model::fingerprint::Fingerprint;
+use model::passage::Passage;
+use model::refusal::Refusal;
 use prints::hash::GramHash;
+use prints::window::Placed;
+use std::marker::Model;
+use tokens::source::Source;
+use tokens::token::{LIMIT, Token};
 
-// Its ghost fields are what every call rests on and keeps, whatever the hash.
+// A library stands for what its store holds, and its index is right for the hash.
 #[derive(Drop)]
 pub struct Library<'a, 'b, H: GramHash> {
-    pub(crate) store: Store<'a, 'b, H>,
-    ghost few: { store.count ≤ 64 },
-    ghost whole: { length store.table ≡ 64 },
-    ghost full: { store.used ≡ extent (live store) },
-    ghost within: { store.used ≤ length store.tokens.now },
-    ghost room: { length store.tokens.now ≤ 1048576 },
-    ghost places: { length store.index.now ≤ 1048576 },
-    ghost indexed: { store.prints ≤ length store.index.now },
-    ghost low: { 1 ≤ store.k },
-    ghost high: { store.k ≤ 64 },
-    ghost least: { store.k ≤ store.t },
-    ghost most: { store.t ≤ 256 },
+    store: Store<'a, 'b, H>,
+}
+
+impl<'a, 'b, H: GramHash> Model for Library<'a, 'b, H> {
+    ghost use Rattle.library.specs.Stores.{State, Sound};
+    ghost use Rattle.library.specs.States.{state};
+
+    ghost Value = { State H.Value };
+
+    ghost view = { λ l. state l.store };
+
+    ghost invariant = { λ l. Sound H.GramHash.value H.Value.Ord.cmp (state l.store) };
+}
+
+// How many of so many entries are used.
+pub(crate) fn capped(len: usize) -> usize
+    ensures { result ≡ min len 1048576 }
+{
+    len.min(LIMIT)
+}
+
+impl<'a, 'b, H: GramHash> Library<'a, 'b, H> {
+    ghost use Rattle.library.specs.Stores.{Opened, Kept, Told};
+
+    // A library that holds no file, over the first 1,048,576 entries of these lists.
+    pub fn open(
+        plan: Plan<H>,
+        tokens: &'a mut [Token],
+        index: &'b mut [Fingerprint<H::Value>],
+    ) -> Library<'a, 'b, H>
+        ensures { Opened H.GramHash.value H.Value.Ord.cmp plan.k plan.t tokens.old index.old result }
+    {
+        let room = capped(tokens.len());
+        let places = capped(index.len());
+        Library {
+            store: Store::new(plan, &mut tokens[..room], &mut index[..places]),
+        }
+    }
+
+    // Takes in the file that the source reads, under a number of its own. The work list serves the choice of places.
+    pub fn add<S: Source + Drop>(
+        &mut self,
+        number: u16,
+        source: S,
+        work: &mut [Placed<H::Value>],
+    ) -> Result<Added, Refusal>
+        ensures told { Told H.GramHash.value H.Value.Ord.cmp self.old self.new (add number (S.Source.tokens source) (S.Source.ending source) (length work.old)) (added result) }
+        ensures kept { Kept self.old self.new }
+        ensures work { WorkKept result work.old work.new }
+    {
+        self.store.add(number, source, work)
+    }
+
+    // Ends that a file is held.
+    pub fn remove(&mut self, number: u16) -> Result<(), Refusal>
+        ensures told { Told H.GramHash.value H.Value.Ord.cmp self.old self.new (remove number) (removed result) }
+        ensures kept { Kept self.old self.new }
+    {
+        self.store.remove(number)
+    }
+
+    // Writes the numbers of the held files into the list, in order of the Adds, and answers how many they are.
+    pub fn held(&self, list: &mut [u16]) -> Result<usize, Refusal>
+        ensures { Told H.GramHash.value H.Value.Ord.cmp self.now self.now (held (length list.old)) (listed result list.new) }
+    {
+        self.store.held(list)
+    }
+
+    // Writes the passages of a held file with all others into the list, and counts its pairs.
+    pub fn report(&self, number: u16, list: &mut [Passage]) -> Result<Reported, Refusal>
+        ensures { Told H.GramHash.value H.Value.Ord.cmp self.now self.now (report number (length list.old)) (reported result list.new) }
+    {
+        self.store.report(number, list)
+    }
 }

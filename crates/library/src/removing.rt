@@ -3,12 +3,11 @@ ghost use Rattle.std.specs.Prelude.{◌≡◌, ◌+◌, ◌-◌, ◌≤◌, ◌+
 ghost use Rattle.runs.specs.Shares.{unused};
 ghost use Rattle.model.specs.Tables.{At};
 ghost use Rattle.model.specs.Calls.{remove, removed};
-ghost use Rattle.library.specs.Stores.{live, Shape, Step};
+ghost use Rattle.library.specs.Stores.{Step};
 ghost use Rattle.library.specs.Removal.{TakenOut};
 
 use crate::store::Store;
 use filling::entries::{close_gap, wipe};
-use model::fingerprint::OfFile;
 use model::refusal::{Reason, Refusal};
 use model::table::{Spot, find};
 use ordered::edit::remove_all;
@@ -17,7 +16,8 @@ use tokens::token::Token;
 
 // Moves the used tokens behind the `len` from `start` on up, and leaves as many unused behind them.
 fn close_tokens(tokens: &mut [Token], start: usize, len: usize, used: usize)
-    requires { (start + len ≤ used) × (used ≤ length tokens.old) }
+    requires within { start + len ≤ used }
+    requires used { used ≤ length tokens.old }
     ensures { tokens.new ≡ take start tokens.old ++ take (used - (start + len)) (drop (start + len) tokens.old) ++ (replicate len unused ++ drop used tokens.old) }
 {
     close_gap(tokens, start, len, used);
@@ -25,32 +25,25 @@ fn close_tokens(tokens: &mut [Token], start: usize, len: usize, used: usize)
 }
 
 impl<H: GramHash> Store<'_, '_, H> {
+    ghost use Rattle.library.specs.States.{state};
+
     fn take_out(&mut self, number: u16, spot: Spot)
-        requires shape { Shape self.old }
-        requires there { At number (live self.old) spot }
-        ensures { TakenOut H.Value.Ord.cmp self.old self.new number spot }
+        requires { At number self.old.table.items spot }
+        ensures { TakenOut H.Value.Ord.cmp (state self.old) (state self.new) number spot }
     {
-        let used = self.used;
-        let count = self.count;
-        let prints = self.prints;
-        close_tokens(self.tokens, spot.start, spot.len, used);
-        close_gap(&mut self.table, spot.slot, 1, count);
-        self.prints = remove_all(self.index, prints, &OfFile(number));
-        self.count = count - 1;
-        self.used = used - spot.len;
+        self.prints = remove_all(self.index, self.prints, |x| x.file == number);
+        close_tokens(self.tokens, spot.start, spot.len, self.used);
+        self.table.remove(spot.slot);
+        self.used -= spot.len;
     }
 
     pub fn remove(&mut self, number: u16) -> Result<(), Refusal>
-        requires { Shape self.old }
-        ensures shape { Shape self.new }
-        ensures step { Step H.GramHash.value H.Value.Ord.cmp self.old self.new (remove number) (removed result) }
+        ensures { Step H.GramHash.value H.Value.Ord.cmp (state self.old) (state self.new) (remove number) (removed result) }
     {
-        match find(&self.table[0..self.count], number) {
-            None => Err(Refusal::plain(Reason::RemoveUnheld)),
-            Some(spot) => {
-                self.take_out(number, spot);
-                Ok(())
-            }
-        }
+        let Some(spot) = find(self.table.as_slice(), number) else {
+            return Err(Refusal::plain(Reason::RemoveUnheld));
+        };
+        self.take_out(number, spot);
+        Ok(())
     }
 }

@@ -1,7 +1,7 @@
 // The passages of a held file with the others.
 ghost use Rattle.std.specs.Prelude.{length};
 ghost use Rattle.model.specs.Calls.{report, reported};
-ghost use Rattle.library.specs.Stores.{Shape, Step};
+ghost use Rattle.library.specs.Stores.{Step};
 
 use crate::store::Store;
 use model::answers::Reported;
@@ -11,12 +11,19 @@ use pairing::report::report;
 use prints::hash::GramHash;
 
 impl<H: GramHash> Store<'_, '_, H> {
+    ghost use Rattle.library.specs.States.{state};
+
     pub fn report(&self, number: u16, list: &mut [Passage]) -> Result<Reported, Refusal>
-        requires { Shape self.now }
-        ensures { Step H.GramHash.value H.Value.Ord.cmp self.now self.now (report number (length list.old)) (reported result list.new) }
+        ensures { Step H.GramHash.value H.Value.Ord.cmp (state self.now) (state self.now) (report number (length list.old)) (reported result list.new) }
     {
-        let table = &self.table[0..self.count];
-        let index = &self.index[0..self.prints];
-        report(self.tokens, table, index, number, self.k, list)
+        let index = &self.index[..self.prints];
+        report(
+            self.tokens,
+            self.table.as_slice(),
+            index,
+            number,
+            self.plan.k,
+            list,
+        )
     }
 }

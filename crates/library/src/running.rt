@@ -1,27 +1,25 @@
 // Any list of calls.
 ghost use Rattle.std.specs.Prelude.{◌≡◌, ◌≤◌, min, [], map, length, vec_len, vec_capacity, MatchResult};
 ghost use Rattle.model.specs.Calls.{asked, shown};
-ghost use Rattle.library.specs.Stores.{Shape, Step, Steps};
+ghost use Rattle.library.specs.Stores.{Step, Steps};
 ghost use Rattle.library.specs.Running.{setting_over, Ran};
 
-use crate::calls::capped;
+use crate::library::capped;
 use crate::plan::Plan;
 use crate::store::Store;
-use filling::entries::wipe;
 use model::calls::{Answer, Call};
 use model::fingerprint::Fingerprint;
-use model::table::Entry;
 use prints::hash::GramHash;
 use std::alloc::{AllocError, Global};
 use tokens::source::Source;
 use tokens::token::Token;
 
 impl<H: GramHash> Store<'_, '_, H> {
+    ghost use Rattle.library.specs.States.{state};
+
     // Makes one call.
     fn make<S: Source + Drop>(&mut self, call: Call<S, H::Value>) -> Answer
-        requires { Shape self.old }
-        ensures shape { Shape self.new }
-        ensures step { Step H.GramHash.value H.Value.Ord.cmp self.old self.new (asked S.Source.tokens S.Source.ending call) (shown result) }
+        ensures { Step H.GramHash.value H.Value.Ord.cmp (state self.old) (state self.new) (asked S.Source.tokens S.Source.ending call) (shown result) }
     {
         match call {
             Call::Add {
@@ -47,13 +45,11 @@ impl<H: GramHash> Store<'_, '_, H> {
         calls: Vec<Call<S, H::Value>>,
         answers: &mut Vec<Answer>,
     )
-        requires shape { Shape self.old }
         requires none { (answers.old.items ≡ []) × (vec_len answers.old ≡ 0) }
         requires room { vec_len calls ≤ vec_capacity answers.old }
         ensures tokens { self.new.tokens.ghost_name ≡ self.old.tokens.ghost_name }
         ensures index { self.new.index.ghost_name ≡ self.old.index.ghost_name }
-        ensures shape { Shape self.new }
-        ensures steps { Steps H.GramHash.value H.Value.Ord.cmp self.old self.new (map (asked S.Source.tokens S.Source.ending) calls.items) (map shown answers.new.items) }
+        ensures steps { Steps H.GramHash.value H.Value.Ord.cmp (state self.old) (state self.new) (map (asked S.Source.tokens S.Source.ending) calls.items) (map shown answers.new.items) }
     {
         for call in calls {
             let answer = self.make(call);
@@ -75,17 +71,7 @@ fn run_over<H: GramHash, S: Source + Drop>(
     requires room { vec_len calls ≤ vec_capacity answers.old }
     ensures { Ran (setting_over H.GramHash.value H.Value.Ord.cmp plan.k plan.t (length tokens.old) (length index.old)) (map (asked S.Source.tokens S.Source.ending) calls.items) (map shown answers.new.items) tokens.old tokens.new index.old index.new }
 {
-    wipe(tokens, 0);
-    let mut store = Store::<H> {
-        tokens,
-        index,
-        table: [Entry { number: 0, len: 0 }; 64],
-        count: 0,
-        used: 0,
-        prints: 0,
-        k: plan.k,
-        t: plan.t,
-    };
+    let mut store = Store::<H>::new(plan, tokens, index);
     store.make_all(calls, answers);
 }
 

@@ -1,23 +1,57 @@
-// What a library keeps: the lists that it was lent, and the table of its files.
-ghost use Rattle.std.specs.Prelude.{◌≡◌, ℕ, ◌≤◌};
-ghost use Rattle.library.specs.Stores.{Shape, files};
+// What a library keeps: the lists that it was lent, the table of its files, and its plan.
+ghost use Rattle.std.specs.Prelude.{◌≡◌, ◌≤◌, [], length};
+ghost use Rattle.model.specs.Tables.{extent};
 
+use crate::plan::Plan;
+use arrayvec::ArrayVec;
+use filling::entries::wipe;
 use model::fingerprint::Fingerprint;
 use model::table::Entry;
 use prints::hash::GramHash;
 use tokens::token::Token;
 
+// Its ghost fields are what every call rests on and keeps, whatever the hash.
 #[derive(Drop)]
 pub struct Store<'a, 'b, H: GramHash> {
     pub tokens: &'a mut [Token],
-    pub index: &'b mut [Fingerprint<H::Value>],
-    // the held files are the first `count`
-    pub table: [Entry; 64],
-    pub count: usize,
-    // how many entries of the token list and of the index are used
+    // how many entries of the token list are used
     pub used: usize,
+    pub table: ArrayVec<Entry, 64>,
+    pub index: &'b mut [Fingerprint<H::Value>],
+    // and of the index
     pub prints: usize,
-    // the plan
-    pub k: usize,
-    pub t: usize,
+    pub plan: Plan<H>,
+    ghost full: { used ≡ extent table.items },
+    ghost within: { used ≤ length tokens.now },
+    ghost room: { length tokens.now ≤ 1048576 },
+    ghost places: { length index.now ≤ 1048576 },
+    ghost indexed: { prints ≤ length index.now },
+}
+
+impl<'a, 'b, H: GramHash> Store<'a, 'b, H> {
+    ghost use Rattle.library.specs.Stores.{Opened};
+    ghost use Rattle.library.specs.States.{state};
+
+    // A store of no files.
+    pub fn new(
+        plan: Plan<H>,
+        tokens: &'a mut [Token],
+        index: &'b mut [Fingerprint<H::Value>],
+    ) -> Store<'a, 'b, H>
+        requires few_tokens { length tokens.old ≤ 1048576 }
+        requires few_places { length index.old ≤ 1048576 }
+        ensures same_tokens { result.tokens.ghost_name ≡ tokens.entry.ghost_name }
+        ensures same_index { result.index.ghost_name ≡ index.entry.ghost_name }
+        ensures opened { Opened H.GramHash.value H.Value.Ord.cmp plan.k plan.t tokens.old index.old (state result) }
+    {
+        wipe(tokens, 0);
+        Store {
+            tokens,
+            used: 0,
+            table: ArrayVec::new(),
+            index,
+            prints: 0,
+            plan,
+        }
+    }
 }

@@ -3,7 +3,7 @@ ghost use Rattle.std.specs.Prelude.{◌≡◌, ℕ, ◌+◌, ◌-◌, ◌^◌, �
 ghost use Rattle.model.specs.Tables.{At, Absent, extent};
 
 // A held file: its number, and how many tokens it has. The tokens of the files lie end to end in the order of the table.
-#[derive(Clone, Copy, PartialEq, Eq, Debug)]
+#[derive(Clone, Copy, PartialEq, Eq, Debug, Default)]
 pub struct Entry {
     pub number: u16,
     pub len: usize,

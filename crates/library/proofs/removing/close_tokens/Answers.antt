@@ -9,6 +9,6 @@ returns c =
     let one = c.close_gap.new.xs in
     let z : u - 0 ≡ u = omega arith in
     let w : c.wipe.new.tokens ≡ take (u - c.args.len) (take (u - 0) one) ++ replicate (length (take (u - 0) one) - (u - c.args.len)) unused = c.wipe.ensures in
-    let e = closed c.args.tokens.now one c.wipe.new.tokens c.args.start c.args.len u c.requires.0 c.requires.1 c.close_gap.ensures (rw z at w) in
+    let e = closed c.args.tokens.now one c.wipe.new.tokens c.args.start c.args.len u c.requires.within c.requires.used c.close_gap.ensures (rw z at w) in
     let v : c.wipe.new.tokens ++ drop (u - 0) one ≡ _ = ap (λ (x : ℕ). c.wipe.new.tokens ++ drop x one) z ∙ e in
     v

@@ -1,6 +1,5 @@
-use Rattle.std.proofs.Common.{◌≡◌, ℕ, ◌≤◌, [], ◌∷◌, length, sym, refl, ap, ◌∙◌, arith}
+use Rattle.std.proofs.Common.{◌≡◌, ℕ, [], ◌∷◌, length, sym, refl, ap, ◌∙◌, arith}
 use Rattle.std.proofs.lemmas.List.{take_all}
-use Rattle.runs.specs.Shares.{SameGrams}
 use Rattle.model.specs.Files.{tokens_of}
 use Rattle.pairing.specs.Scopes.{files}
 use Rattle.pairing.specs.Tallies.{Tallied}

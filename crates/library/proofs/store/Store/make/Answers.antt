@@ -9,7 +9,7 @@ returns-in-Held g c =
     let n = c.as_mut_slice-in-Held.ensures.len in
     let k : length ws ≡ v.len = c.held-answer.auto.list ∙ n in
     let e : take v.len (ws ++ drop (length ws) v.items) ≡ ws = with_items_is v ws k in
-    record { shape = c.requires; step = rw (c.in-Held.is, e) (rw n at c.held-answer.ensures) }
+    rw (c.in-Held.is, e) (rw n at c.held-answer.ensures)
 
 pub returns-in-Report : goal.returns-in-Report
 returns-in-Report g c =
@@ -18,4 +18,4 @@ returns-in-Report g c =
     let n = c.as_mut_slice-in-Report.ensures.len in
     let k : length ws ≡ v.len = c.report-answer.auto.list ∙ n in
     let e : take v.len (ws ++ drop (length ws) v.items) ≡ ws = with_items_is v ws k in
-    record { shape = c.requires; step = rw (c.in-Report.is, e) (rw n at c.report-answer.ensures) }
+    rw (c.in-Report.is, e) (rw n at c.report-answer.ensures)

@@ -2,6 +2,7 @@ use Rattle.std.proofs.Common.{◌≡◌, [], ◌∷◌, sym, ◌∙◌, arith}
 use Rattle.std.specs.Vec.Iter.{into_iter_items}
 use Rattle.std.proofs.lemmas.List.{nil_from_length}
 use Rattle.model.specs.Calls.{asked}
+use Rattle.library.specs.States.{state}
 use Rattle.library.proofs.Runs.{turn_of, end_of}
 use Rattle.library.proofs.store.Store.make_all.Goals as goal
 
@@ -11,9 +12,8 @@ loop-call-preserved g c =
     let less = c.in-Some.ensures.steps.1 in
     let n = c.push_reserved.ensures.len in
     let m = c.push_reserved.ensures.capacity in
-    let room = c.loop-call.invariant.2 in (
-      c.make-answer.ensures.shape,
-      turn_of g.H.GramHash.value g.H.Value.Ord.cmp (asked g.S.Source.tokens g.S.Source.ending) c.args.self.now _ c.loop-call.self c.make-answer.new.self _ _ c.in-Some.call _ _ c.make-answer.result more c.push_reserved.ensures.items c.loop-call.invariant.1 c.make-answer.ensures.step,
+    let room = c.loop-call.invariant.1 in (
+      turn_of g.H.GramHash.value g.H.Value.Ord.cmp (asked g.S.Source.tokens g.S.Source.ending) (state c.args.self.now) _ (state c.loop-call.self) (state c.make-answer.new.self) _ _ c.in-Some.call _ _ c.make-answer.result more c.push_reserved.ensures.items c.loop-call.invariant.0 c.make-answer.ensures,
       omega arith,
     )
 
@@ -22,4 +22,4 @@ returns g c =
     let it = c.loop-call.call-iterator in
     let none : into_iter_items it ≡ [] = nil_from_length _ (sym it.rest.ok.0 ∙ c.in-None.ensures.steps.0) in
     let came = c.into_iter-call-iterator.ensures.into_iter_gives.0 in
-    record { tokens = c.loop-call.invariant.1.kept.tokens; index = c.loop-call.invariant.1.kept.index; shape = c.loop-call.invariant.0; steps = rw (← came) (end_of g.H.GramHash.value g.H.Value.Ord.cmp (asked g.S.Source.tokens g.S.Source.ending) c.args.self.now _ c.loop-call.self _ _ none c.loop-call.invariant.1) }
+    record { tokens = c.loop-call.invariant.0.kept.tokens; index = c.loop-call.invariant.0.kept.index; steps = rw (← came) (end_of g.H.GramHash.value g.H.Value.Ord.cmp (asked g.S.Source.tokens g.S.Source.ending) (state c.args.self.now) _ (state c.loop-call.self) _ _ none c.loop-call.invariant.0) }

@@ -1,9 +1,16 @@
-use Rattle.std.proofs.Common.{arith}
-use Rattle.library.proofs.Removes.{spot_within}
+use Rattle.std.proofs.Common.{◌≡◌, ℕ, ◌+◌, suc, ◌++◌, take, drop, refl, ap, ◌∙◌, arith, rules}
+use Rattle.std.proofs.lemmas.Fn.{always_returns_same}
 use Rattle.library.proofs.store.Store.take_out.Goals as goal
 
-pub close_tokens-requires : goal.close_tokens-requires
-close_tokens-requires g c = (spot_within c.args.self.now c.requires.shape c.args.number c.args.spot c.requires.there, c.requires.shape.within)
-
-pub overflow_sub-self-2 : goal.overflow_sub-self-2
-overflow_sub-self-2 g c = let l = spot_within c.args.self.now c.requires.shape c.args.number c.args.spot c.requires.there in omega arith
+pub returns : goal.returns
+returns g c =
+    let s = c.args.self.now in
+    let p = c.args.spot in
+    let one : suc p.slot ≡ p.slot + 1 = omega arith in
+    record {
+      tokens = c.close_tokens.ensures;
+      table = c.remove.ensures.items ∙ ap (λ (i : ℕ). take p.slot s.table.items ++ drop i s.table.items) one;
+      index = c.remove_all-self.ensures.thinned _ (always_returns_same _ _ _ (λ a r f k. search rules));
+      used = refl;
+      kept = record { gram = refl; run = refl; room = c.close_tokens.auto.tokens; places = c.remove_all-self.auto.list; tokens = refl; index = refl };
+    }
