@@ -1,5 +1,6 @@
 -- Lists of tokens that are well placed.
-use Rattle.std.proofs.Common.{◌≡◌, ℕ, zero, suc, ◌≤◌, Bool, true, ◌&&◌, ltb, leb, List, [], ◌∷◌, drop, filter, refl, arith}
+use Rattle.std.proofs.Common.{◌≡◌, ℕ, zero, suc, ◌≤◌, Bool, true, ◌&&◌, ltb, leb, List, [], ◌∷◌, ◌++◌, drop, filter, Some, None, Option, refl, arith}
+use Rattle.std.specs.Option.{option_to_list}
 use Rattle.std.proofs.lemmas.Bool.{cond_both, and_parts, and_from, leb-true, le-leb, ltb-true, lt-ltb}
 use Rattle.tokens.specs.declared.token.Token.{Token}
 use Rattle.tokens.specs.Tokens.{limit, class_number, Sound, sound, PlacedFrom, placed_from, rest}
@@ -64,3 +65,8 @@ placed_means a (t ∷ ts) e =
     let f = and_parts (sound t) _ e in
     let h = and_parts (leb a t.from) _ f.1 in
     (sound_means t f.0, leb-true a t.from h.0, placed_means t.to ts h.1)
+
+-- what an iterator over the list leaves of it
+pub placed_left : (taken : Option Token) (ts : List Token) → placed_from 0 (option_to_list taken ++ ts) ≡ true → placed_from 0 ts ≡ true
+placed_left None ts e = e
+placed_left (Some t) ts e = placed_tested 0 ts (placed_tail 0 t ts (placed_means 0 (t ∷ ts) e))

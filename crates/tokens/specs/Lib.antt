@@ -2,5 +2,4 @@ pub mod Tokens
 pub mod Texts
 pub mod Bytes
 pub mod Proses
-pub mod Sides
 pub mod Collecting

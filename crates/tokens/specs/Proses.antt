@@ -1,5 +1,5 @@
 -- The tokens of prose: one a byte.
-use Rattle.std.specs.Prelude.{ℕ, zero, suc, ◌+◌, Bool, true, cond, not, List, map, slice_index, slice_index_or}
+use Rattle.std.specs.Prelude.{ℕ, zero, suc, ◌+◌, Bool, true, cond, not, List, map, slice_index}
 use Rattle.std.specs.List.{range_with_len}
 use Rattle.tokens.specs.declared.token.Class.{Class}
 use Rattle.tokens.specs.declared.token.Class.TheVariants.{Blank, NameFirst, NameFurther, NumberFirst, NumberFurther, Mark}
@@ -15,7 +15,7 @@ begins test file (suc i) = not (test (slice_index file i))
 -- the class of the byte at place i: the first letter of a run of letters begins a name, the first digit of a run of digits a number
 abbrev pub prose_class : List ℕ → ℕ → Class
 prose_class file i =
-    let b = slice_index_or file i 0 in
+    let b = slice_index file i in
     cond (is_blank b) Blank
     (cond (is_letter b) (cond (begins is_letter file i) NameFirst NameFurther)
     (cond (is_digit b) (cond (begins is_digit file i) NumberFirst NumberFurther)

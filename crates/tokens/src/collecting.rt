@@ -24,8 +24,7 @@ impl Collected {
             }
         };
         Ok(Collected {
-            list,
-            at: 0,
+            list: list.into_iter(),
             ending,
             depth,
         })
@@ -42,14 +41,9 @@ impl Source for Collected {
     fn lawful(&self) {}
 
     fn next(&mut self) -> Result<Option<Token>, Fault> {
-        let i = self.at;
-        if i < self.list.len() {
-            self.at = i + 1;
-            return Ok(Some(self.list[i]));
-        }
-        match self.ending {
-            None => Ok(None),
-            Some(fault) => Err(fault),
+        match self.list.next() {
+            Some(token) => Ok(Some(token)),
+            None => self.ending.map_or(Ok(None), Err),
         }
     }
 

@@ -4,7 +4,7 @@
 pub mod bytes;
 pub mod collected;
 pub mod collecting;
-pub mod either;
 pub mod prose;
 pub mod source;
+mod sum;
 pub mod token;

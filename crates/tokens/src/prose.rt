@@ -1,17 +1,18 @@
 // Prose: one token a byte.
-ghost use Rattle.std.specs.Prelude.{◌≡◌, ◌<◌, length};
+ghost use Rattle.std.specs.Prelude.{◌≡◌, ℕ, ◌<◌, ◌≤◌, length, slice_index};
 ghost use Rattle.tokens.specs.Proses.{prose_class, prose_from, prose_tokens};
 ghost use Rattle.tokens.specs.Texts.{text_ending};
 
-use crate::bytes::{are_bytes, is_blank, is_digit, is_letter};
+use crate::bytes::{is_blank, is_digit, is_letter};
 use crate::source::Source;
-use crate::token::{Cause, Class, Fault, LIMIT, Token, file_fault};
+use crate::token::{Cause, Class, Fault, LIMIT, Token};
 
 // A file read as prose, from the place `at` on.
 #[derive(Clone, Copy)]
 pub struct Prose<'a> {
     pub file: &'a [u8],
     pub at: usize,
+    ghost bytes: { (k : ℕ) → slice_index file.now k ≤ 255 },
 }
 
 impl<'a> Prose<'a> {
@@ -29,16 +30,17 @@ fn class_at(file: &[u8], i: usize) -> Class
     ensures { result ≡ prose_class file.now i }
 {
     let b = file[i];
+    let before = file[..i].last().copied();
     if is_blank(b) {
         Class::Blank
     } else if is_letter(b) {
-        if i > 0 && is_letter(file[i - 1]) {
+        if before.is_some_and(is_letter) {
             Class::NameFurther
         } else {
             Class::NameFirst
         }
     } else if is_digit(b) {
-        if i > 0 && is_digit(file[i - 1]) {
+        if before.is_some_and(is_digit) {
             Class::NumberFurther
         } else {
             Class::NumberFirst
@@ -55,21 +57,18 @@ impl Source for Prose<'_> {
 
     ghost depth = { λ _. 0 };
 
-    fn lawful(&self) {
-        are_bytes(self.file);
-    }
+    fn lawful(&self) {}
 
     fn next(&mut self) -> Result<Option<Token>, Fault> {
         let i = self.at;
         if self.file.len() > LIMIT {
-            return Err(file_fault(Cause::TooLong, 0));
+            return Err(Fault::in_file(Cause::TooLong, 0));
         }
-        if i >= self.file.len() {
+        let Some(&b) = self.file.get(i) else {
             return Ok(None);
-        }
-        let b = self.file[i];
+        };
         if b == 0 {
-            return Err(file_fault(Cause::ZeroByte, i as u32));
+            return Err(Fault::in_file(Cause::ZeroByte, i as u32));
         }
         self.at = i + 1;
         Ok(Some(Token {

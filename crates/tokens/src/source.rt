@@ -16,7 +16,8 @@ pub trait Source {
     ghost depth: { Self → ℕ };
 
     // The laws of every source, in whatever state: its list is well placed, and its depth at most 255.
-    // Runs nothing: a caller that rests on the laws calls it to be told them.
+    // Runs nothing: a caller that rests on the laws calls it to be told them. It is no law among the ghost members,
+    // since the proof of one has to stand in specs/, which has definitions alone (for C-like files it is 900 lines).
     fn lawful(&self)
         ensures placed { Placed (tokens self.now) }
         ensures shallow { depth self.now ≤ 255 };

@@ -1,5 +1,6 @@
 // What a source hands out: tokens, and the fault that may end its list.
 ghost use Rattle.std.specs.Prelude.{◌≡◌};
+ghost use Rattle.tokens.specs.Texts.{file_fault};
 ghost use Rattle.tokens.specs.Tokens.{class_number, cause_number, same, sound};
 
 // The largest file, in bytes.
@@ -7,8 +8,9 @@ pub const LIMIT: usize = 1_048_576;
 
 // What kind of text a token stands for. `Unused` is the class of an entry of a token list that
 // holds no token: all its numbers are 0, and no source hands it out.
-#[derive(Clone, Copy)]
+#[derive(Clone, Copy, PartialEq, Eq, Default, Debug)]
 pub enum Class {
+    #[default]
     Unused = 0,
     Blank = 1,
     NameFirst = 2,
@@ -22,16 +24,16 @@ pub enum Class {
     Made = 10,
 }
 
-impl Class {
-    pub fn number(self) -> u8
-        ensures { result ≡ class_number self }
-    {
-        self as u8
+impl From<Class> for u8 {
+    ghost from_gives = { λ class number. number ≡ class_number class };
+
+    fn from(class: Class) -> u8 {
+        class as u8
     }
 }
 
 // A token covers the bytes of the file from `from` up to, without, `to`.
-#[derive(Clone, Copy)]
+#[derive(Clone, Copy, PartialEq, Eq, Default, Debug)]
 pub struct Token {
     pub code: u16,
     pub class: Class,
@@ -44,10 +46,8 @@ impl Token {
     pub fn is_sound(&self) -> bool
         ensures { result ≡ sound self.now }
     {
-        let class = self.class.number();
-        1 <= self.code
-            && self.code <= 1023
-            && 1 <= class
+        (1..=1023).contains(&self.code)
+            && self.class != Class::Unused
             && self.from < self.to
             && self.to as usize <= LIMIT
     }
@@ -61,7 +61,7 @@ impl Token {
 }
 
 // Why a source's list ends early. The causes from `Fifth` on are for sources of other crates.
-#[derive(Clone, Copy)]
+#[derive(Clone, Copy, PartialEq, Eq, Debug)]
 pub enum Cause {
     TooLong = 1,
     ZeroByte = 2,
@@ -74,29 +74,31 @@ pub enum Cause {
     Ninth = 9,
 }
 
-impl Cause {
-    pub fn number(self) -> u8
-        ensures { result ≡ cause_number self }
-    {
-        self as u8
+impl From<Cause> for u8 {
+    ghost from_gives = { λ cause number. number ≡ cause_number cause };
+
+    fn from(cause: Cause) -> u8 {
+        cause as u8
     }
 }
 
 // What ended a list early, at which byte of the file, and how many layers above the file it was found.
-#[derive(Clone, Copy)]
+#[derive(Clone, Copy, PartialEq, Eq, Debug)]
 pub struct Fault {
     pub cause: Cause,
     pub place: u32,
     pub depth: u8,
 }
 
-// A fault found in the file itself, below every layer.
-pub fn file_fault(cause: Cause, place: u32) -> Fault
-    ensures { result ≡ record { cause = cause; place = place; depth = 0 } }
-{
-    Fault {
-        cause,
-        place,
-        depth: 0,
+impl Fault {
+    // A fault found in the file itself, below every layer.
+    pub fn in_file(cause: Cause, place: u32) -> Fault
+        ensures { result ≡ file_fault cause place }
+    {
+        Fault {
+            cause,
+            place,
+            depth: 0,
+        }
     }
 }

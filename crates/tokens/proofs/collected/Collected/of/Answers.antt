@@ -30,4 +30,4 @@ invariant_of-result g c =
     ] in
     let whole : items ≡ all = sym (append-nil items) ∙ ap (λ xs. items ++ xs) (sym none) ∙ c.loop-token.invariant.0 in
     let deep : c.depth-depth.result ≤ 255 = omega (arith, c.depth-depth.ensures, c.lawful.ensures.shallow) in
-    record { shallow = deep; placed = ap (placed_from 0) whole ∙ placed_tested 0 all c.lawful.ensures.placed }
+    record { shallow = deep; placed = ap (placed_from 0) (c.into_iter.ensures.rest ∙ whole) ∙ placed_tested 0 all c.lawful.ensures.placed }

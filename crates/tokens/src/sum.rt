@@ -1,21 +1,16 @@
-// A sum of two sources, for lists that mix kinds of file.
-ghost use Rattle.tokens.specs.Sides.{by_side};
+// A sum of two sources is a source, for lists that mix kinds of file.
+ghost use Rattle.either.specs.Either.{either};
 
 use crate::source::Source;
 use crate::token::{Fault, Token};
-
-#[derive(Drop)]
-pub enum Either<A, B> {
-    Left(A),
-    Right(B),
-}
+use either::Either;
 
 impl<A: Source, B: Source> Source for Either<A, B> {
-    ghost tokens = { by_side A.Source.tokens B.Source.tokens };
+    ghost tokens = { either A.Source.tokens B.Source.tokens };
 
-    ghost ending = { by_side A.Source.ending B.Source.ending };
+    ghost ending = { either A.Source.ending B.Source.ending };
 
-    ghost depth = { by_side A.Source.depth B.Source.depth };
+    ghost depth = { either A.Source.depth B.Source.depth };
 
     fn lawful(&self) {
         match self {
