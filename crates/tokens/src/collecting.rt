@@ -16,13 +16,11 @@ impl Collected {
         source.lawful();
         let depth = source.depth();
         let mut list = Vec::new(heap);
-        let ending = loop {
-            match source.next() {
-                Ok(Some(token)) => list.push(token)?,
-                Ok(None) => break None,
-                Err(fault) => break Some(fault),
-            }
-        };
+        while let Ok(Some(token)) = source.next() {
+            list.push(token)?;
+        }
+        // The list has ended; its ending comes again when it is asked for.
+        let ending = source.next().err();
         Ok(Collected {
             list: list.into_iter(),
             ending,

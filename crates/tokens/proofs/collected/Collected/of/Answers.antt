@@ -5,7 +5,7 @@ use Rattle.tokens.specs.Tokens.{placed_from, first}
 use Rattle.tokens.proofs.Placing.{placed_tested}
 use Rattle.tokens.proofs.Streams.{first_some, first_none, first_err}
 use Rattle.tokens.proofs.collected.Collected.of.Goals as goal
-use Rattle.tokens.proofs.collected.Collected.of.Goals.{in-Ok-None, in-Err}
+use Rattle.tokens.proofs.collected.Collected.of.Goals.{in_default, in_default-2}
 
 pub loop-token-preserved : goal.loop-token-preserved
 loop-token-preserved g c =
@@ -16,7 +16,7 @@ loop-token-preserved g c =
     let h = c.in-Ok-Some.ensures.answer in
     let came : Ok (Some t) ≡ first old (g.S.Source.ending c.loop-token.source) = cc in
     let split : old ≡ t ∷ new = first_some old _ t came ∙ ap (λ xs. t ∷ xs) (sym c.next.ensures.left) in
-    let more : vec_items c.push.new.self ≡ items ++ t ∷ [] = pushed (t ∷ []) refl c.in_ok-push-in-Ok-Some.was c.push.ensures.items in
+    let more : vec_items c.push.new.self ≡ items ++ t ∷ [] = pushed (t ∷ []) refl c.in_ok-push.was c.push.ensures.items in
     (ap (λ xs. xs ++ new) more ∙ append_assoc items (t ∷ []) new ∙ ap (λ xs. items ++ xs) (sym split) ∙ c.loop-token.invariant.0, c.next.ensures.ends ∙ c.loop-token.invariant.1)
 
 pub invariant_of-result : goal.invariant_of-result
@@ -25,8 +25,8 @@ invariant_of-result g c =
     let items = vec_items c.loop-token.list in
     let old = g.S.Source.tokens c.loop-token.source in
     let none : old ≡ [] = elim c.match-next.branch [
-      | in-Ok-None w ↦ let h = w.in-Ok-None.ensures.answer in let came : Ok None ≡ first old (g.S.Source.ending c.loop-token.source) = cc in (first_none old _ came).0
-      | in-Err w ↦ (first_err old _ _ w.in-Err.ensures.answer).0
+      | in_default w ↦ let h = w.in_default.ensures.answer in let came : Ok None ≡ first old (g.S.Source.ending c.loop-token.source) = cc in (first_none old _ came).0
+      | in_default-2 w ↦ (first_err old _ _ (sym w.in_default.is ∙ c.next.ensures.answer)).0
     ] in
     let whole : items ≡ all = sym (append-nil items) ∙ ap (λ xs. items ++ xs) (sym none) ∙ c.loop-token.invariant.0 in
     let deep : c.depth-depth.result ≤ 255 = omega (arith, c.depth-depth.ensures, c.lawful.ensures.shallow) in
