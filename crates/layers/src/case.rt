@@ -23,10 +23,9 @@ impl<S: Source> Case<S> {
 fn small_code(code: u16) -> u16
     ensures { result ≡ small code }
 {
-    if 65 <= code && code <= 90 {
-        code + 32
-    } else {
-        code
+    match code {
+        65..=90 => code + 32,
+        _ => code,
     }
 }
 
@@ -42,14 +41,10 @@ impl<S: Source> Source for Case<S> {
     }
 
     fn next(&mut self) -> Result<Option<Token>, Fault> {
-        let Some(token) = self.below.next()? else {
-            return Ok(None);
-        };
-        Ok(Some(Token {
+        let next = self.below.next()?;
+        Ok(next.map(|token| Token {
             code: small_code(token.code),
-            class: token.class,
-            from: token.from,
-            to: token.to,
+            ..token
         }))
     }
 

@@ -5,7 +5,8 @@ ghost use Rattle.layers.specs.Layers.{deeper, without};
 use tokens::source::Source;
 use tokens::token::{Fault, Token};
 
-// Tokens have the classes 1 to 10, so one made with another number leaves out nothing.
+// The class is a number, and no `Class`, since one may be asked for that is none. Tokens have the classes 1 to 10,
+// so a layer with another number leaves out nothing.
 #[derive(Drop)]
 pub struct DropClass<S> {
     pub below: S,
@@ -37,7 +38,7 @@ impl<S: Source> Source for DropClass<S> {
 
     fn next(&mut self) -> Result<Option<Token>, Fault> {
         while let Some(token) = self.below.next()? {
-            if token.class.number() != self.class {
+            if u8::from(token.class) != self.class {
                 return Ok(Some(token));
             }
         }

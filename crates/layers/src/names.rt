@@ -28,13 +28,13 @@ const NAME_CODE: u16 = 300;
 fn starts_name(token: &Token) -> bool
     ensures { result ≡ starts_name token.now }
 {
-    matches!(token.class, Class::NameFirst)
+    token.class == Class::NameFirst
 }
 
 fn goes_on(token: &Token) -> bool
     ensures { result ≡ goes_on token.now }
 {
-    matches!(token.class, Class::NameFurther)
+    token.class == Class::NameFurther
 }
 
 // Whether a token can stand before what begins at `reached`. Each token that is read ahead can.
