@@ -1,7 +1,7 @@
 -- Names: how far one goes, and that a list with its names joined is well placed.
-use Rattle.std.proofs.Common.{◌≡◌, ℕ, ◌+◌, ◌≤◌, Bool, true, false, cond, ◌&&◌, leb, List, [], ◌∷◌, ◌++◌, drop, Some, None, Option, sym, refl, ap, ◌∙◌, subst, one-add, arith}
+use Rattle.std.proofs.Common.{◌≡◌, ℕ, ◌+◌, ◌<◌, ◌≤◌, Bool, true, false, cond, ◌&&◌, leb, List, [], ◌∷◌, ◌++◌, drop, Some, None, Option, sym, refl, ap, ◌∙◌, subst, ⊎_elim, one-add, arith}
 use Rattle.std.specs.List.{prefix_len}
-use Rattle.std.proofs.lemmas.Bool.{cond_both, cond-true, cond-false, and_parts, and_from, and_left, and_right, leb-true, le-leb, le-ltb, eqb-true, ne_eqb}
+use Rattle.std.proofs.lemmas.Bool.{cond_both, cond-true, cond-false, and_parts, and_from, and_left, and_right, leb-true, le-leb, le-ltb, lt-ltb, ltb-false, eqb-true, ne_eqb, cases_Bool}
 use Rattle.tokens.specs.declared.token.Token.{Token}
 use Rattle.tokens.specs.declared.token.Fault.{Fault}
 use Rattle.tokens.specs.Tokens.{limit, class_number, Sound, sound, PlacedFrom}
@@ -68,6 +68,23 @@ ending_behind depth e (t ∷ ts) =
 
 not_too_many : (ts : List Token) → prefix_len goes_on ts ≤ 254 → too_many ts ≡ false
 not_too_many ts h = le-ltb 255 (1 + prefix_len goes_on ts) (omega arith)
+
+pub some_end : (to end : ℕ) (ts : List Token) → prefix_len goes_on ts ≤ 254 → end ≡ name_end to ts → Some end ≡ cond (too_many ts) None (Some (name_end to ts))
+some_end to end ts few e = ap Some e ∙ sym (cond-false (too_many ts) _ _ (not_too_many ts few))
+
+pub no_end : (to : ℕ) (ts : List Token) → 254 < prefix_len goes_on ts → None ≡ cond (too_many ts) None (Some (name_end to ts))
+no_end to ts many = sym (cond-true (too_many ts) _ _ (lt-ltb 255 (1 + prefix_len goes_on ts) (omega arith)))
+
+-- where a name has an end
+pub end_told : (to end : ℕ) (ts : List Token) → Some end ≡ cond (too_many ts) None (Some (name_end to ts)) → (prefix_len goes_on ts ≤ 254) × (end ≡ name_end to ts)
+end_told to end ts e =
+    ⊎_elim
+    (λ many. let z : ◌≡◌ {A = Option ℕ} (Some end) None = e ∙ cond-true (too_many ts) _ _ many in let no : ◌≡◌ {A = ℕ} 0 1 = cc in absurd (omega arith))
+    (λ few.
+    let some : Some end ≡ Some (name_end to ts) = e ∙ cond-false (too_many ts) _ _ few in
+    let most = ltb-false 255 (1 + prefix_len goes_on ts) few in
+    (omega (arith, most), cc))
+    (cases_Bool (too_many ts))
 
 -- a name that is not too long is one token, and the list goes on behind it
 pub named_joined : (t : Token) (ts : List Token) → starts_name t ≡ true → prefix_len goes_on ts ≤ 254 → named (t ∷ ts) ≡ whole_name t ts ∷ named (drop (prefix_len goes_on ts) ts)

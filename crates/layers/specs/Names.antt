@@ -1,17 +1,18 @@
 -- Names: a token that begins a name and the further ones directly after it become one token.
 use Rattle.std.specs.Prelude.{ℕ, ◌+◌, Bool, true, false, cond, ◌&&◌, List, [], ◌∷◌, Some, Option, nat_lt}
 use Rattle.std.specs.List.{prefix_len}
-use Rattle.tokens.specs.declared.token.Class.TheVariants.{Made}
+use Rattle.tokens.specs.declared.token.Class.TheVariants.{NameFirst, NameFurther, Made}
 use Rattle.tokens.specs.declared.token.Cause.TheVariants.{LongName}
 use Rattle.tokens.specs.declared.token.Token.{Token}
 use Rattle.tokens.specs.declared.token.Fault.{Fault}
+use Rattle.tokens.specs.Tokens.{class_number}
 use Rattle.layers.specs.Layers.{has_class}
 
 abbrev pub starts_name : Token → Bool
-starts_name t = has_class 2 t
+starts_name t = has_class (class_number NameFirst) t
 
 abbrev pub goes_on : Token → Bool
-goes_on t = has_class 3 t
+goes_on t = has_class (class_number NameFurther) t
 
 -- a token that starts a name, followed by these, starts one of more than 255 tokens
 abbrev pub too_many : List Token → Bool

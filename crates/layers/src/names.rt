@@ -1,9 +1,9 @@
 // Names: a layer that makes one token of each name.
-ghost use Rattle.std.specs.Prelude.{◌≡◌, ◌+◌, ◌<◌, ◌≤◌, drop, None, MatchOption};
+ghost use Rattle.std.specs.Prelude.{◌≡◌, drop, Some, None, IsSome, if◌then◌else◌};
 ghost use Rattle.std.specs.List.{prefix_len};
 ghost use Rattle.layers.specs.Layers.{deeper};
 ghost use Rattle.tokens.specs.Tokens.{first, rest};
-ghost use Rattle.layers.specs.Names.{starts_name, goes_on, name_end, named, named_ending};
+ghost use Rattle.layers.specs.Names.{starts_name, goes_on, too_many, name_end, named, named_ending};
 ghost use Rattle.layers.specs.Naming.{fits_before, pending, names_left, names_ending};
 
 use crate::onward::Onward;
@@ -19,8 +19,8 @@ pub struct Names<S> {
     pub stopped: Option<Fault>,
 }
 
-// The most tokens that a name has besides its first.
-const MOST_FURTHER: u8 = 254;
+// The most tokens that a name has.
+const MOST_TOKENS: u16 = 255;
 
 // The code of the token that stands for a name.
 const NAME_CODE: u16 = 300;
@@ -66,44 +66,35 @@ impl<S: Source> Names<S> {
         ensures ending { S.Source.ending self.new.below.below ≡ S.Source.ending self.old.below.below }
         ensures depth { S.Source.depth self.new.below.below ≡ S.Source.depth self.old.below.below }
     {
-        if let Some(token) = self.held {
-            self.held = None;
-            if fits_before(&token, self.below.reached) {
-                return Ok(Some(token));
-            }
+        match self.held.take() {
+            Some(token) if fits_before(&token, self.below.reached) => Ok(Some(token)),
+            _ => self.below.next(),
         }
-        self.below.next()
     }
 
     // Reads the tokens that go on with a name which has come to `to`, and the one after them. Answers where the
     // name ends, or none if it has too many tokens.
     fn rest_of_name(&mut self, to: u32) -> Option<u32>
         requires { self.old.held ≡ None }
-        ensures cases { MatchOption result (254 < prefix_len goes_on (pending S.Source.tokens self.old)) (λ e. (prefix_len goes_on (pending S.Source.tokens self.old) ≤ 254) × (e ≡ name_end to (pending S.Source.tokens self.old)) × (pending S.Source.tokens self.new ≡ drop (prefix_len goes_on (pending S.Source.tokens self.old)) (pending S.Source.tokens self.old))) }
+        ensures answer { result ≡ (if too_many (pending S.Source.tokens self.old) then None else Some (name_end to (pending S.Source.tokens self.old))) }
+        ensures left { IsSome result → pending S.Source.tokens self.new ≡ drop (prefix_len goes_on (pending S.Source.tokens self.old)) (pending S.Source.tokens self.old) }
         ensures stopped { self.new.stopped ≡ self.old.stopped }
         ensures ending { S.Source.ending self.new.below.below ≡ S.Source.ending self.old.below.below }
         ensures depth { S.Source.depth self.new.below.below ≡ S.Source.depth self.old.below.below }
     {
         let mut to = to;
-        let mut further = 0u8;
-        loop {
-            self.below.lawful();
+        for _ in 0..MOST_TOKENS {
             match self.below.next() {
+                Ok(Some(token)) if goes_on(&token) => to = token.to,
                 Ok(Some(token)) => {
-                    if !goes_on(&token) {
-                        self.held = Some(token);
-                        return Some(to);
-                    }
-                    if further == MOST_FURTHER {
-                        return None;
-                    }
-                    further += 1;
-                    to = token.to;
+                    self.held = Some(token);
+                    return Some(to);
                 }
                 // The list below has ended; its ending comes again when it is asked for.
                 _ => return Some(to),
             }
         }
+        None
     }
 }
 

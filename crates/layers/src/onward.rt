@@ -1,8 +1,10 @@
 // A source with the byte place that it has reached, for layers that read a token ahead: what they owe rests
-// on this place alone, and on no invariant that would speak of the tokens of a type parameter.
-ghost use Rattle.std.specs.Prelude.{◌≡◌};
+// on this place alone. An invariant would have to speak of the tokens of a type parameter, and each definition that names
+// the struct would then take one more argument.
+ghost use Rattle.std.specs.Prelude.{◌≡◌, Some, Ok};
 ghost use Rattle.layers.specs.Onwards.{onward, reached_by};
-ghost use Rattle.tokens.specs.Tokens.{PlacedFrom, first, rest};
+ghost use Rattle.tokens.specs.declared.token.Token.{Token};
+ghost use Rattle.tokens.specs.Tokens.{Sound, PlacedFrom, first, rest};
 
 use tokens::source::Source;
 use tokens::token::{Fault, Token};
@@ -37,6 +39,7 @@ impl<S: Source> Onward<S> {
         ensures left { onward self.new.reached (S.Source.tokens self.new.below) ≡ rest (onward self.old.reached (S.Source.tokens self.old.below)) }
         ensures ends { S.Source.ending self.new.below ≡ S.Source.ending self.old.below }
         ensures stays { S.Source.depth self.new.below ≡ S.Source.depth self.old.below }
+        ensures sound { (t : Token) → result ≡ Ok (Some t) → Sound t }
         ensures reaches { self.new.reached ≡ reached_by result self.old.reached }
     {
         self.below.lawful();

@@ -1,6 +1,6 @@
 use Rattle.std.proofs.Common.{◌≡◌, ◌∷◌, Some, Ok, sym, refl, ap, ◌∙◌, subst}
 use Rattle.layers.specs.Onwards.{onward}
-use Rattle.tokens.specs.Tokens.{Placed, first, rest}
+use Rattle.tokens.specs.Tokens.{Placed, Sound, first, rest}
 use Rattle.layers.proofs.Onwards.{onward_taken, onward_skipped}
 use Rattle.tokens.proofs.Placing.{placed_rest}
 use Rattle.tokens.proofs.Streams.{first_some}
@@ -21,6 +21,7 @@ returns-then-token-self g c =
       left = sym (ap rest whole);
       ends = c.next.ensures.ends ∙ c.loop-token.invariant.2;
       stays = c.next.ensures.stays ∙ c.loop-token.invariant.3;
+      sound = λ x e. let same : t ≡ x = cc in subst Sound same (subst Placed split c.loop-token.invariant.4).0;
       reaches = refl;
     }
 
