@@ -1,5 +1,5 @@
 -- Lists of tokens that are well placed.
-use Rattle.std.proofs.Common.{◌≡◌, ℕ, zero, suc, ◌≤◌, Bool, true, ◌&&◌, ltb, leb, List, [], ◌∷◌, ◌++◌, drop, filter, Some, None, Option, refl, arith}
+use Rattle.std.proofs.Common.{◌≡◌, ℕ, ◌≤◌, Bool, true, ◌&&◌, ltb, leb, List, [], ◌∷◌, ◌++◌, filter, Some, None, Option, refl, arith}
 use Rattle.std.specs.Option.{option_to_list}
 use Rattle.std.proofs.lemmas.Bool.{cond_both, and_parts, and_from, leb-true, le-leb, ltb-true, lt-ltb}
 use Rattle.tokens.specs.declared.token.Token.{Token}
@@ -15,11 +15,6 @@ placed_tail a t ts p =
     let after = p.1 in
     let covers = p.0.covers in
     placed_weaker t.to a ts (omega arith) p.2
-
-pub placed_drop : (n a : ℕ) (ts : List Token) → PlacedFrom a ts → PlacedFrom a (drop n ts)
-placed_drop zero a ts p = p
-placed_drop (suc n) a [] p = p
-placed_drop (suc n) a (t ∷ ts) p = placed_drop n a ts (placed_tail a t ts p)
 
 pub placed_kept : (test : Token → Bool) (a : ℕ) (ts : List Token) → PlacedFrom a ts → PlacedFrom a (filter test ts)
 placed_kept test a [] p = p
