@@ -1,8 +1,8 @@
 -- What is read of bytes, from a place on.
-use Rattle.std.proofs.Common.{◌≡◌, ℕ, zero, suc, ◌+◌, ◌<◌, ◌≤◌, Bool, true, false, cond, ◌&&◌, ◌||◌, eqb, List, [], ◌∷◌, length, get_or, take, drop, sym, refl, ap, ◌∙◌, ⊎_elim, one-add, arith}
+use Rattle.std.proofs.Common.{◌≡◌, ℕ, zero, suc, ◌+◌, ◌<◌, ◌≤◌, Bool, true, false, cond, not, ◌&&◌, ◌||◌, eqb, List, [], ◌∷◌, length, get_or, take, drop, sym, refl, ap, ◌∙◌, ⊎_elim, one-add, arith}
 use Rattle.std.proofs.lemmas.List.{at_drop_more, at_drop_all}
 use Rattle.std.specs.List.{prefix_len}
-use Rattle.std.proofs.lemmas.Bool.{cond_both, cond-true, cond-false, eq-eqb, ne_eqb, eqb-true, eqb-false, not-true, not-false, and_parts, and_cases, cases_Bool, cases_eq, cases_lt, both_ways, or_left}
+use Rattle.std.proofs.lemmas.Bool.{cond_both, cond-true, cond-false, eq-eqb, ne_eqb, and_parts, cases_eq, cases_lt, both_ways, or_left}
 use Rattle.tokens.specs.Texts.{nonzero}
 use Rattle.clike.specs.Lexemes.{read, begins_with, closing, closes, before_close, quoted_on}
 
@@ -18,19 +18,11 @@ module _ {X : Type 0} (F : List ℕ → X) (xs : List ℕ) (i : ℕ) where
 
 -- ---- runs
 
-module _ (p : ℕ → Bool) (xs : List ℕ) (i : ℕ) (h : i < length xs) where
-  pub run_more : (nonzero (get_or xs i 0) && p (get_or xs i 0)) ≡ true → prefix_len p (read (drop i xs)) ≡ 1 + prefix_len p (read (drop (i + 1) xs))
-  run_more e =
-      let both = and_parts (nonzero (get_or xs i 0)) (p (get_or xs i 0)) e in
-      read_more (prefix_len p) xs i h (eqb-false (get_or xs i 0) 0 (not-true (eqb (get_or xs i 0) 0) both.0)) ∙ cond-true (p (get_or xs i 0)) _ _ both.1
-
-  pub run_stops : (nonzero (get_or xs i 0) && p (get_or xs i 0)) ≡ false → prefix_len p (read (drop i xs)) ≡ 0
-  run_stops e =
-      let b = get_or xs i 0 in
-      let zero-byte : nonzero b ≡ false → prefix_len p (read (drop i xs)) ≡ 0 = λ z. read_stops (prefix_len p) xs i h (eqb-true b 0 (not-false (eqb b 0) z)) in
-      ⊎_elim zero-byte
-      (λ f. ⊎_elim (λ yes'. read_more (prefix_len p) xs i h (eqb-false b 0 (not-true (eqb b 0) yes')) ∙ cond-false (p b) _ _ f) zero-byte (cases_Bool (nonzero b)))
-      (and_cases (nonzero b) (p b) e)
+-- the run at the front of what is read ends at a zero byte too
+pub read_run : (p : ℕ → Bool) (xs : List ℕ) → prefix_len (λ b. nonzero b && p b) xs ≡ prefix_len p (read xs)
+read_run p [] = refl
+read_run p (b ∷ bs) =
+    elim (eqb b 0) as (λ t. cond (not t && p b) (1 + prefix_len (λ c. nonzero c && p c) bs) 0 ≡ prefix_len p (cond t [] (b ∷ read bs))) [ true ↦ refl | false ↦ ap (λ n. cond (p b) (1 + n) 0) (read_run p bs) ]
 
 -- ---- the byte at a place
 

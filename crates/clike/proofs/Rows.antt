@@ -1,12 +1,12 @@
 -- Cutting bytes to their end.
-use Rattle.std.proofs.Common.{◌≡◌, ℕ, zero, suc, ◌<◌, ◌≤◌, Bool, true, false, cond, eqb, List, [], ◌∷◌, ◌++◌, map, length, take, drop, Some, None, Option, sym, refl, ap, ◌∙◌, arith}
+use Rattle.std.proofs.Common.{◌≡◌, ℕ, zero, suc, ◌<◌, ◌≤◌, Bool, true, false, cond, eqb, List, [], ◌∷◌, ◌++◌, map, length, take, drop, Some, None, sym, refl, ap, ◌∙◌, arith}
 use Rattle.std.specs.List.{flat_map}
 use Rattle.std.proofs.lemmas.List.{length-take-le, drop_at}
 use Rattle.clike.specs.declared.lexeme.Lexeme.{Lexeme}
 use Rattle.clike.specs.declared.lexeme.Lexeme.TheVariants.{Nothing, Blank, Comment, OpenComment, Quoted, Name, Keyword, Number, Mark}
 use Rattle.clike.specs.Lexemes.{Piece, read, first_shape, first_lexeme, lexemes}
 use Rattle.clike.specs.Cutting.{lexeme_bytes, seen, Cuts}
-use Rattle.clike.proofs.Shapes.{shape_fits}
+use Rattle.clike.proofs.Shapes.{piece_bytes, seen_bytes, shape_fits}
 use Rattle.clike.proofs.Pieces.{lexemes_none, lexemes_more, lexemes_join}
 
 -- reading on after what was cut
@@ -16,21 +16,6 @@ read_drop (suc n) [] h = refl
 read_drop (suc n) (b ∷ bs) h =
     let Goal : Bool → Type 0 = λ t. suc n ≤ length (cond t [] (b ∷ read bs)) → read (drop n bs) ≡ drop (suc n) (cond t [] (b ∷ read bs)) in
     elim (eqb b 0) as Goal [ true ↦ (λ low. absurd (omega arith)) | false ↦ (λ low. read_drop n bs (omega arith)) ] h
-
-abbrev piece_bytes : Option Piece → List ℕ
-piece_bytes None = []
-piece_bytes (Some p) = p.bytes
-
-seen_bytes : (l : Lexeme) → lexeme_bytes l ≡ piece_bytes (seen l)
-seen_bytes Nothing = refl
-seen_bytes (Blank run) = refl
-seen_bytes (Comment run) = refl
-seen_bytes (OpenComment run) = refl
-seen_bytes (Quoted run) = refl
-seen_bytes (Name run) = refl
-seen_bytes (Keyword run n) = refl
-seen_bytes (Number run) = refl
-seen_bytes (Mark run) = refl
 
 -- what was cut off, where there was something to read
 cut_off : (bytes text rest : List ℕ) (l : Lexeme) → read bytes ≡ text → seen l ≡ first_lexeme text → lexeme_bytes l ++ rest ≡ bytes → 0 < length text
@@ -49,14 +34,14 @@ cut_off bytes (b ∷ after) rest l t e whole h =
 some_text : (text : List ℕ) (l : Lexeme) → seen l ≡ first_lexeme text → (l ≡ Nothing → ⊥) → 0 < length text
 some_text (b ∷ after) l e ne = omega arith
 some_text [] Nothing e ne = absurd (ne refl)
-some_text [] (Blank run) e ne = let z : ◌≡◌ {A = ℕ} 0 1 = cc in absurd (omega arith)
-some_text [] (Comment run) e ne = let z : ◌≡◌ {A = ℕ} 0 1 = cc in absurd (omega arith)
-some_text [] (OpenComment run) e ne = let z : ◌≡◌ {A = ℕ} 0 1 = cc in absurd (omega arith)
-some_text [] (Quoted run) e ne = let z : ◌≡◌ {A = ℕ} 0 1 = cc in absurd (omega arith)
-some_text [] (Name run) e ne = let z : ◌≡◌ {A = ℕ} 0 1 = cc in absurd (omega arith)
-some_text [] (Keyword run n) e ne = let z : ◌≡◌ {A = ℕ} 0 1 = cc in absurd (omega arith)
-some_text [] (Number run) e ne = let z : ◌≡◌ {A = ℕ} 0 1 = cc in absurd (omega arith)
-some_text [] (Mark run) e ne = let z : ◌≡◌ {A = ℕ} 0 1 = cc in absurd (omega arith)
+some_text [] (Blank run) e ne = cc
+some_text [] (Comment run) e ne = cc
+some_text [] (OpenComment run) e ne = cc
+some_text [] (Quoted run) e ne = cc
+some_text [] (Name run) e ne = cc
+some_text [] (Keyword run n) e ne = cc
+some_text [] (Number run) e ne = cc
+some_text [] (Mark run) e ne = cc
 
 pub cut_more : (bytes rest : List ℕ) (l : Lexeme) → Cuts bytes l rest → (l ≡ Nothing → ⊥) → (map Some (lexemes (read bytes)) ≡ seen l ∷ map Some (lexemes (read rest))) × (0 < length (lexeme_bytes l))
 cut_more bytes rest l c ne =
@@ -65,7 +50,7 @@ cut_more bytes rest l c ne =
 
 no_text : (text : List ℕ) → None ≡ first_lexeme text → text ≡ []
 no_text [] e = refl
-no_text (b ∷ after) e = let z : ◌≡◌ {A = ℕ} 0 1 = cc in absurd (omega arith)
+no_text (b ∷ after) e = cc
 
 pub cut_none : (bytes rest : List ℕ) (l : Lexeme) → Cuts bytes l rest → l ≡ Nothing → map Some (lexemes (read bytes)) ≡ []
 cut_none bytes rest l c e =

@@ -1,18 +1,17 @@
 -- The first lexeme: its rules one by one, and its size.
-use Rattle.std.proofs.Common.{◌≡◌, ℕ, ◌+◌, ◌<◌, ◌≤◌, Bool, true, false, cond, ◌&&◌, ◌||◌, eqb, List, [], ◌∷◌, ◌++◌, length, get_or, take, drop, IfSome, Some, None, Option, sym, refl, ap, ◌∙◌, subst, ⊎_elim, arith}
-use Rattle.std.specs.List.{prefix_len}
+use Rattle.std.proofs.Common.{◌≡◌, ℕ, ◌+◌, ◌<◌, ◌≤◌, Bool, true, false, cond, ◌&&◌, ◌||◌, eqb, ltb, List, [], ◌∷◌, ◌++◌, length, get_or, take, drop, position, IfSome, Some, None, Ok, Err, Option, sym, refl, ap, ◌∙◌, subst, ⊎_elim, arith}
+use Rattle.std.specs.List.{prefix_len, position_or_len}
 use Rattle.std.proofs.lemmas.List.{take-append-drop, length-take}
 use Rattle.std.proofs.lemmas.List.Sums.{prefix_len-le-length}
-use Rattle.std.proofs.lemmas.Bool.{cond_both, cond-true, cond-false, or_left, or_right, and_parts, and_right, eqb-true, ne_eqb, both_ways, cases_lt}
+use Rattle.std.proofs.lemmas.Bool.{cond_both, cond-true, cond-false, or_left, or_right, and_parts, and_right, eqb-true, ltb-true, ne_eqb, both_ways, cases_lt}
 use Rattle.std.proofs.lemmas.Bool.Decides.{nat_tests}
 use Rattle.tokens.specs.Bytes.{is_blank, is_digit}
 use Rattle.clike.specs.declared.lexeme.Lexeme.{Lexeme}
 use Rattle.std.specs.Str.{bytes_eq}
-use Rattle.clike.specs.Keywords.{keywords, place_among, keyword_number}
-use Rattle.clike.specs.Lexemes.{Kind, blank, comment, open_comment, quoted, name, keyword, number, mark, Shape, shape, read, begins_with, closing, closes, before_close, block_comment, in_line, is_quote, quoted_on, begins_word, in_word, in_number, word_kind, word, first_shape, first_lexeme}
+use Rattle.clike.specs.Keywords.{keywords, keyword_number}
+use Rattle.clike.specs.Lexemes.{Kind, blank, comment, open_comment, quoted, name, keyword, number, mark, Shape, shape, read, begins_with, closing, closes, before_close, block_comment, in_line, is_quote, quoted_on, begins_word, in_word, in_number, word_kind, word, Piece, first_shape, first_lexeme}
 use Rattle.clike.specs.Cutting.{lexeme_bytes, lexeme_of, seen, Cuts}
-use Rattle.clike.specs.declared.lexeme.Lexeme.TheVariants.{Nothing}
-use Rattle.clike.specs.declared.scan.CommentEnd.TheVariants.{Closed, Open}
+use Rattle.clike.specs.declared.lexeme.Lexeme.TheVariants.{Nothing, Blank, Comment, OpenComment, Quoted, Name, Keyword, Number, Mark}
 use Rattle.clike.specs.Scans.{comment_end}
 use Rattle.clike.proofs.Fronts.{read_more, read_take, read_length, next_is, next_none}
 
@@ -103,19 +102,16 @@ Numbered mark = Unit {0}
 abbrev pub Fitting : ℕ → Shape → Type 0
 Fitting n s = (1 ≤ s.size) × (s.size ≤ n) × Numbered s.kind
 
-place_below : (run : List ℕ) (i : ℕ) (words : List (List ℕ)) → IfSome (place_among run i words) (λ n. n < i + length words)
-place_below run i [] = tt
-place_below run i (word' ∷ words) =
-    let P : Option ℕ → Type 0 = λ o. IfSome o (λ n. n < i + length (word' ∷ words)) in
-    let wider : (o : Option ℕ) → IfSome o (λ n. n < i + 1 + length words) → P o = λ o. elim o as (λ o. IfSome o (λ n. n < i + 1 + length words) → P o) [ None ↦ (λ _. tt) | Some n ↦ (λ h. omega arith) ] in
-    cond_both (bytes_eq run word') (Some i) (place_among run (i + 1) words) P (λ _. omega arith) (λ _. wider (place_among run (i + 1) words) (place_below run (i + 1) words))
+place_below : {X : Type 0} (p : X → Bool) (xs : List X) → IfSome (position p xs) (λ n. n < length xs)
+place_below p xs =
+    cond_both (ltb (position_or_len p xs) (length xs)) (Some (position_or_len p xs)) None (λ o. IfSome o (λ n. n < length xs)) (λ e. ltb-true (position_or_len p xs) (length xs) e) (λ _. tt)
 
 word_numbered : (run : List ℕ) → Numbered (word_kind (keyword_number run))
 unfolding keyword_number keywords
 word_numbered run =
     let Goal : Option ℕ → Type 0 = λ o. IfSome o (λ n. n < 32) → Numbered (word_kind o) in
     let each : (o : Option ℕ) → Goal o = λ o. elim o as Goal [ None ↦ (λ _. tt) | Some n ↦ (λ h. h) ] in
-    each (place_among run 0 keywords) (place_below run 0 keywords)
+    each (position (bytes_eq run) keywords) (place_below (bytes_eq run) keywords)
 
 run_fits : (p : ℕ → Bool) (k : Kind) (b : ℕ) (after : List ℕ) → Numbered k → p b ≡ true → Fitting (length (b ∷ after)) (shape k (prefix_len p (b ∷ after)))
 run_fits p k b after few e = let one : prefix_len p (b ∷ after) ≡ 1 + prefix_len p after = cond-true (p b) _ _ e in (omega arith, prefix_len-le-length p (b ∷ after), few)
@@ -142,10 +138,25 @@ shape_fits b after =
 
 -- ---- what `cut` answers where there is something to read
 
+abbrev pub piece_bytes : Option Piece → List ℕ
+piece_bytes None = []
+piece_bytes (Some p) = p.bytes
+
+pub seen_bytes : (l : Lexeme) → lexeme_bytes l ≡ piece_bytes (seen l)
+seen_bytes Nothing = refl
+seen_bytes (Blank run) = refl
+seen_bytes (Comment run) = refl
+seen_bytes (OpenComment run) = refl
+seen_bytes (Quoted run) = refl
+seen_bytes (Name run) = refl
+seen_bytes (Keyword run n) = refl
+seen_bytes (Number run) = refl
+seen_bytes (Mark run) = refl
+
 pub cuts : (bytes : List ℕ) (l : Lexeme) (rest : List ℕ) (k : Kind) (n : ℕ) → 0 < length bytes → (get_or bytes 0 0 ≡ 0 → ⊥)
-    → first_shape (get_or bytes 0 0) (read (drop 1 bytes)) ≡ shape k n → seen l ≡ lexeme_of k (take n bytes) → lexeme_bytes l ≡ take n bytes → rest ≡ drop n bytes
+    → first_shape (get_or bytes 0 0) (read (drop 1 bytes)) ≡ shape k n → seen l ≡ lexeme_of k (take n bytes) → rest ≡ drop n bytes
     → Cuts bytes l rest
-cuts bytes l rest k n h ne e kind-is bytes-are rest-is =
+cuts bytes l rest k n h ne e kind-is rest-is =
     let b = get_or bytes 0 0 in
     let after = read (drop 1 bytes) in
     let text : read bytes ≡ b ∷ after = read_more (λ xs. xs) bytes 0 h ne in
@@ -153,6 +164,7 @@ cuts bytes l rest k n h ne e kind-is bytes-are rest-is =
     let room : n ≤ length (read bytes) = omega (arith, fits.1, ap length text) in
     let few = read_length bytes in
     let front : take n (b ∷ after) ≡ take n bytes = ap (take n) (sym text) ∙ read_take n bytes room in
+    let bytes-are : lexeme_bytes l ≡ take n bytes = seen_bytes l ∙ ap piece_bytes kind-is in
     let same : first_lexeme (read bytes) ≡ lexeme_of k (take n bytes) =
     ap first_lexeme text ∙ ap (λ s. lexeme_of s.kind (take s.size (b ∷ after))) e ∙ ap (lexeme_of k) front in
     record {
@@ -169,21 +181,21 @@ block_read : (bytes : List ℕ) → 2 ≤ length bytes → get_or bytes 0 0 ≡ 
 block_read bytes h slash star =
     ap (λ b. first_shape b (read (drop 1 bytes))) slash ∙ ap (first_shape 47) (second_read bytes 42 (omega arith) h star) ∙ block_rule (read (drop 2 bytes))
 
-pub closed_read : (bytes : List ℕ) (n : ℕ) → 2 ≤ length bytes → get_or bytes 0 0 ≡ 47 → get_or bytes 1 0 ≡ 42 → Closed n ≡ comment_end (read (drop 2 bytes)) → first_shape (get_or bytes 0 0) (read (drop 1 bytes)) ≡ shape comment (2 + n)
+pub closed_read : (bytes : List ℕ) (n : ℕ) → 2 ≤ length bytes → get_or bytes 0 0 ≡ 47 → get_or bytes 1 0 ≡ 42 → Ok n ≡ comment_end (read (drop 2 bytes)) → first_shape (get_or bytes 0 0) (read (drop 1 bytes)) ≡ shape comment (2 + n)
 unfolding block_comment
 closed_read bytes n h slash star e =
     let body = read (drop 2 bytes) in
-    let Goal : Bool → Type 0 = λ t. Closed n ≡ cond t (Closed (before_close body + 2)) (Open (length body)) → cond t (shape comment (4 + before_close body)) (shape open_comment (2 + length body)) ≡ shape comment (2 + n) in
+    let Goal : Bool → Type 0 = λ t. Ok n ≡ cond t (Ok (before_close body + 2)) (Err (length body)) → cond t (shape comment (4 + before_close body)) (shape open_comment (2 + length body)) ≡ shape comment (2 + n) in
     let yes' : Goal true = λ p. let same : n ≡ before_close body + 2 = cc in ap (shape comment) (omega arith) in
-    let no' : Goal false = λ p. let z : ◌≡◌ {A = ℕ} 0 1 = cc in absurd (omega arith) in
+    let no' : Goal false = λ p. cc in
     block_read bytes h slash star ∙ elim (closes body) as Goal [ true ↦ yes' | false ↦ no' ] e
 
-pub open_read : (bytes : List ℕ) (n : ℕ) → 2 ≤ length bytes → get_or bytes 0 0 ≡ 47 → get_or bytes 1 0 ≡ 42 → Open n ≡ comment_end (read (drop 2 bytes)) → first_shape (get_or bytes 0 0) (read (drop 1 bytes)) ≡ shape open_comment (2 + n)
+pub open_read : (bytes : List ℕ) (n : ℕ) → 2 ≤ length bytes → get_or bytes 0 0 ≡ 47 → get_or bytes 1 0 ≡ 42 → Err n ≡ comment_end (read (drop 2 bytes)) → first_shape (get_or bytes 0 0) (read (drop 1 bytes)) ≡ shape open_comment (2 + n)
 unfolding block_comment
 open_read bytes n h slash star e =
     let body = read (drop 2 bytes) in
-    let Goal : Bool → Type 0 = λ t. Open n ≡ cond t (Closed (before_close body + 2)) (Open (length body)) → cond t (shape comment (4 + before_close body)) (shape open_comment (2 + length body)) ≡ shape open_comment (2 + n) in
-    let yes' : Goal true = λ p. let z : ◌≡◌ {A = ℕ} 0 1 = cc in absurd (omega arith) in
+    let Goal : Bool → Type 0 = λ t. Err n ≡ cond t (Ok (before_close body + 2)) (Err (length body)) → cond t (shape comment (4 + before_close body)) (shape open_comment (2 + length body)) ≡ shape open_comment (2 + n) in
+    let yes' : Goal true = λ p. cc in
     let no' : Goal false = λ p. let same : n ≡ length body = cc in ap (shape open_comment) (omega arith) in
     block_read bytes h slash star ∙ elim (closes body) as Goal [ true ↦ yes' | false ↦ no' ] e
 

@@ -1,5 +1,6 @@
 -- The tokens of a C-like text: a keyword is one token, each other lexeme gives one token a byte.
 use Rattle.std.specs.Prelude.{ℕ, ◌+◌, List, [], ◌∷◌, ◌++◌, length, Some, None, Option}
+use Rattle.std.specs.Option.{option_or}
 use Rattle.tokens.specs.declared.token.Class.{Class}
 use Rattle.tokens.specs.declared.token.Class.TheVariants as class
 use Rattle.tokens.specs.declared.token.Cause.TheVariants.{OpenComment}
@@ -67,10 +68,6 @@ clike_tokens text = tokens_of 0 (lexemes text)
 
 -- ---- how the list ends
 
-abbrev pub or_else : Option Fault → Option Fault → Option Fault
-or_else (Some f) g = Some f
-or_else None g = g
-
 -- a comment that is not closed is a fault at its slash
 abbrev pub fault_of : ℕ → Kind → Option Fault → Option Fault
 fault_of at open_comment e = Some (file_fault OpenComment at)
@@ -88,4 +85,4 @@ open_fault at (p ∷ ps) = fault_of at p.kind (open_fault (at + length p.bytes) 
 
 -- by a fault of the file itself, or else by an open comment
 abbrev pub clike_ending : List ℕ → Option Fault
-clike_ending file = or_else (text_ending file 0) (open_fault 0 (lexemes (text_read file)))
+clike_ending file = option_or (text_ending file 0) (open_fault 0 (lexemes (text_read file)))

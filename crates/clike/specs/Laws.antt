@@ -1,5 +1,5 @@
 -- What holds of the lexemes of every text, in words of places.
-use Rattle.std.specs.Prelude.{◌≡◌, ℕ, zero, suc, ◌+◌, ◌<◌, ◌≤◌, Bool, true, false, not, ◌&&◌, List, ◌∷◌, length, take, ◌==◌, ◌≢◌, slice_index, slice_index_or}
+use Rattle.std.specs.Prelude.{◌≡◌, ℕ, zero, suc, ◌+◌, ◌<◌, ◌≤◌, Bool, true, false, not, ◌&&◌, List, ◌∷◌, length, take, ◌==◌, ◌≢◌, slice_index}
 use Rattle.std.specs.List.{flat_map, prefix_len, AllByRecursion}
 use Rattle.tokens.specs.Texts.{nonzero}
 use Rattle.clike.specs.Lexemes.{comment, open_comment, quoted, read, is_quote, first_lexeme, lexemes}
@@ -22,8 +22,8 @@ CuttingLosesNothing = (text : List ℕ) → CutToTheEnd text
 -- `*/` stands at place n, two bytes or more after the start of the text
 pub record ClosedAt (text : List ℕ) (n : ℕ) : Type 0 where
   pub later : 2 ≤ n
-  pub star : slice_index_or text n 0 ≡ 42
-  pub slash : slice_index_or text (n + 1) 0 ≡ 47
+  pub star : slice_index text n ≡ 42
+  pub slash : slice_index text (n + 1) ≡ 47
 
 -- a text that begins with `/*` begins with a comment through the first `*/`, or all of it is an open comment
 pub record CommentEnds (text : List ℕ) : Type 0 where

@@ -1,12 +1,14 @@
 // Cutting bytes into lexemes.
-ghost use Rattle.std.specs.Prelude.{◌≡◌, ◌<◌, true, map, length, IfOk, Some, slice_index};
+ghost use Rattle.std.specs.Prelude.{◌≡◌, ◌<◌, ◌≤◌, map, length, take, drop, IfOk, Some, slice_index};
+ghost use Rattle.std.specs.Fn.{FnOnceReturnsAt};
 ghost use Rattle.std.specs.List.{flat_map};
-ghost use Rattle.clike.specs.Cutting.{lexeme_bytes, seen, Cuts};
-ghost use Rattle.clike.specs.Lexemes.{read, begins_word, lexemes};
+ghost use Rattle.clike.specs.Cutting.{lexeme_bytes, lexeme_of, seen, Cuts};
+ghost use Rattle.clike.specs.Keywords.{keyword_number};
+ghost use Rattle.clike.specs.Lexemes.{read, word_kind, lexemes};
 
 use crate::keyword::keyword_number;
 use crate::lexeme::Lexeme;
-use crate::scan::{CommentEnd, Run, comment_end, quoted_length, run_length};
+use crate::scan::{comment_end, in_line, in_number, in_word, quoted_length, run_length};
 use std::alloc::{AllocError, Global};
 
 // The first lexeme, and the rest of the bytes. Reads up to the first zero byte.
@@ -18,24 +20,12 @@ pub fn cut<'a>(bytes: &'a [u8]) -> (Lexeme<'a>, &'a [u8])
     };
     match *b as char {
         '\0' => (Lexeme::Nothing, bytes),
-        '\t'..='\r' | ' ' => {
-            let (run, rest) = bytes.split_at(1);
-            (Lexeme::Blank(run), rest)
-        }
+        '\t'..='\r' | ' ' => cut_at(bytes, 1, Lexeme::Blank),
         '/' => cut_slash(bytes),
-        '"' | '\'' => {
-            let (run, rest) = bytes.split_at(1 + quoted_length(*b, body));
-            (Lexeme::Quoted(run), rest)
-        }
-        'A'..='Z' | 'a'..='z' | '_' => cut_word(bytes),
-        '0'..='9' => {
-            let (run, rest) = bytes.split_at(run_length(Run::Number, bytes));
-            (Lexeme::Number(run), rest)
-        }
-        _ => {
-            let (run, rest) = bytes.split_at(1);
-            (Lexeme::Mark(run), rest)
-        }
+        '"' | '\'' => cut_at(bytes, 1 + quoted_length(*b, body), Lexeme::Quoted),
+        'A'..='Z' | 'a'..='z' | '_' => cut_at(bytes, run_length(bytes, in_word), word),
+        '0'..='9' => cut_at(bytes, run_length(bytes, in_number), Lexeme::Number),
+        _ => cut_at(bytes, 1, Lexeme::Mark),
     }
 }
 
@@ -56,41 +46,43 @@ pub fn cut_all<'a>(heap: Global, bytes: &'a [u8]) -> Result<Vec<Lexeme<'a>>, All
     }
 }
 
+// The first bytes as the lexeme that is made of them, and the rest.
+fn cut_at<'a, F: FnOnce(&'a [u8]) -> Lexeme<'a>>(
+    bytes: &'a [u8],
+    size: usize,
+    make: F,
+) -> (Lexeme<'a>, &'a [u8])
+    requires within { size ≤ length bytes.now }
+    requires callable { F.IsAlwaysCallable make }
+    ensures lexeme { FnOnceReturnsAt F.FnOnce make (take size bytes.now) result.0 }
+    ensures rest { result.1.now ≡ drop size bytes.now }
+{
+    let (run, rest) = bytes.split_at(size);
+    (make(run), rest)
+}
+
 // A slash begins a comment of either kind, or is a mark.
 fn cut_slash<'a>(bytes: &'a [u8]) -> (Lexeme<'a>, &'a [u8])
-    requires { (0 < length bytes.now) × (slice_index bytes.now 0 ≡ 47) }
+    requires some { 0 < length bytes.now }
+    requires slash { slice_index bytes.now 0 ≡ 47 }
     ensures { Cuts bytes.now result.0 result.1.now }
 {
     match bytes {
         [b'/', b'*', body @ ..] => match comment_end(body) {
-            CommentEnd::Closed(n) => {
-                let (run, rest) = bytes.split_at(2 + n);
-                (Lexeme::Comment(run), rest)
-            }
-            CommentEnd::Open(n) => {
-                let (run, rest) = bytes.split_at(2 + n);
-                (Lexeme::OpenComment(run), rest)
-            }
+            Ok(n) => cut_at(bytes, 2 + n, Lexeme::Comment),
+            Err(n) => cut_at(bytes, 2 + n, Lexeme::OpenComment),
         },
-        [b'/', b'/', ..] => {
-            let (run, rest) = bytes.split_at(run_length(Run::Line, bytes));
-            (Lexeme::Comment(run), rest)
-        }
-        _ => {
-            let (run, rest) = bytes.split_at(1);
-            (Lexeme::Mark(run), rest)
-        }
+        [b'/', b'/', ..] => cut_at(bytes, run_length(bytes, in_line), Lexeme::Comment),
+        _ => cut_at(bytes, 1, Lexeme::Mark),
     }
 }
 
-// A run of letters, digits and `_`: a keyword or a name.
-fn cut_word<'a>(bytes: &'a [u8]) -> (Lexeme<'a>, &'a [u8])
-    requires { (0 < length bytes.now) × (begins_word (slice_index bytes.now 0) ≡ true) }
-    ensures { Cuts bytes.now result.0 result.1.now }
+// A run of letters, digits and `_` as a lexeme: a keyword or a name.
+fn word<'a>(run: &'a [u8]) -> Lexeme<'a>
+    ensures { seen result ≡ lexeme_of (word_kind (keyword_number run.now)) run.now }
 {
-    let (run, rest) = bytes.split_at(run_length(Run::Word, bytes));
     match keyword_number(run) {
-        Some(number) => (Lexeme::Keyword(run, number), rest),
-        None => (Lexeme::Name(run), rest),
+        Some(number) => Lexeme::Keyword(run, number),
+        None => Lexeme::Name(run),
     }
 }

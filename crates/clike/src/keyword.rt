@@ -1,6 +1,7 @@
 // The keywords of C89.
-ghost use Rattle.std.specs.Prelude.{◌≡◌, ◌<◌, length, IfSome};
-ghost use Rattle.clike.specs.Keywords.{texts, place_among, keyword_number};
+ghost use Rattle.std.specs.Prelude.{◌≡◌, ◌<◌, length, position, IfSome};
+ghost use Rattle.std.specs.Str.{bytes_eq};
+ghost use Rattle.clike.specs.Keywords.{keyword_number};
 
 // In alphabetical order: the place of each is its number.
 const KEYWORDS: [&[u8]; 32] = [
@@ -40,23 +41,15 @@ const KEYWORDS: [&[u8]; 32] = [
 
 // The place of the first word that the run is.
 fn place_among(run: &[u8], words: &[&[u8]]) -> Option<usize>
-    ensures place { result ≡ place_among run.now 0 (texts words.now) }
+    ensures place { result ≡ position (λ word. bytes_eq run.now word.now) words.now }
     ensures within { IfSome result (λ i. i < length words.now) }
 {
-    for (i, word) in words.iter().enumerate() {
-        if run == *word {
-            return Some(i);
-        }
-    }
-    None
+    words.iter().position(|word| run == *word)
 }
 
 // The number of the keyword that the run is.
 pub fn keyword_number(run: &[u8]) -> Option<u8>
     ensures { result ≡ keyword_number run.now }
 {
-    match place_among(run, &KEYWORDS) {
-        Some(number) => Some(number as u8),
-        None => None,
-    }
+    place_among(run, &KEYWORDS).map(|place| place as u8)
 }

@@ -3,33 +3,23 @@
 ghost use Rattle.clike.specs.Laws.{ReadingStopsAtZero, CuttingLosesNothing, CommentsEnd, QuotesEnd};
 ghost use Rattle.clike.specs.Worked.{WorkedCases};
 
-pub fn reading_stops_at_zero() -> u8
+pub fn reading_stops_at_zero()
     ensures { ReadingStopsAtZero }
-{
-    0
-}
+{}
 
-pub fn cutting_loses_nothing() -> u8
+pub fn cutting_loses_nothing()
     ensures { CuttingLosesNothing }
-{
-    0
-}
+{}
 
-pub fn comments_end() -> u8
+pub fn comments_end()
     ensures { CommentsEnd }
-{
-    0
-}
+{}
 
-pub fn quotes_end() -> u8
+pub fn quotes_end()
     ensures { QuotesEnd }
-{
-    0
-}
+{}
 
 // A finite check of the definitions.
-pub fn worked_cases() -> u8
+pub fn worked_cases()
     ensures { WorkedCases }
-{
-    0
-}
+{}

@@ -3,7 +3,7 @@ ghost use Rattle.std.specs.Prelude.{◌≡◌};
 ghost use Rattle.clike.specs.Cutting.{lexeme_bytes};
 
 // Each but `Nothing` is a part of the bytes that it was cut from; a keyword comes with its number.
-#[derive(Clone, Copy)]
+#[derive(Clone, Copy, PartialEq, Eq, Debug)]
 pub enum Lexeme<'a> {
     Nothing,
     Blank(&'a [u8]),

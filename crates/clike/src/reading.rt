@@ -1,15 +1,17 @@
 // A C-like file as a source of tokens.
-ghost use Rattle.std.specs.Prelude.{◌≡◌, ◌+◌, ◌-◌, ◌<◌, ◌≤◌, ◌∷◌, length, Some, ◌≢◌, slice_index};
+ghost use Rattle.std.specs.Prelude.{◌≡◌, ◌+◌, ◌-◌, ◌<◌, ◌∷◌, length, Some, None, ◌≢◌, slice_index};
+ghost use Rattle.std.specs.Option.{option_or};
 ghost use Rattle.tokens.specs.declared.token.Cause.TheVariants.{OpenComment};
 ghost use Rattle.tokens.specs.Texts.{file_fault};
 ghost use Rattle.clike.specs.Texts.{text_read};
-ghost use Rattle.clike.specs.Clikes.{byte_token, or_else, clike_tokens, clike_ending};
+ghost use Rattle.clike.specs.Clikes.{byte_token, clike_tokens, clike_ending};
 ghost use Rattle.clike.specs.Covering.{EndToEnd, CoversOnce};
-ghost use Rattle.clike.specs.States.{sort_first, sort_further, clike_left, ending_left};
+ghost use Rattle.clike.specs.States.{sort_first, sort_further, IsLeft, NextByte, clike_left, ending_left};
 
 use crate::cutting::cut;
 use crate::lexeme::Lexeme;
-use crate::state::{Clike, Sort};
+use crate::state::{Begun, Clike, Sort};
+use std::num::NonZeroUsize;
 use tokens::bytes::are_bytes;
 use tokens::source::Source;
 use tokens::token::{Cause, Class, Fault, LIMIT, Token, file_fault};
@@ -37,13 +39,19 @@ impl Sort {
         ensures { result ≡ sort_further self }
     {
         match self {
-            Sort::Blank => Class::Blank,
-            Sort::Comment => Class::Comment,
-            Sort::Quoted => Class::Quoted,
             Sort::Name => Class::NameFurther,
             Sort::Number => Class::NumberFurther,
-            Sort::Mark => Class::Mark,
+            alike => alike.first(),
         }
+    }
+}
+
+impl Begun {
+    // A lexeme of which some bytes are still to come; none where they all were read.
+    fn of(sort: Sort, left: usize) -> Option<Begun>
+        ensures { IsLeft sort left result }
+    {
+        NonZeroUsize::new(left).map(|left| Begun { sort, left })
     }
 }
 
@@ -58,66 +66,59 @@ impl<'a> Clike<'a> {
         Clike {
             file,
             at: 0,
-            left: 0,
-            sort: Sort::Mark,
+            begun: None,
             unclosed: None,
         }
     }
 }
 
-// The token of the byte at a place.
-fn token_at(file: &[u8], at: usize, class: Class) -> Token
-    requires { (at < length file.now) × (length file.now ≤ 1048576) }
-    ensures { result ≡ byte_token at class (slice_index file.now at) }
-{
-    Token {
-        code: u16::from(file[at]),
-        class,
-        from: at as u32,
-        to: at as u32 + 1,
-    }
-}
-
 impl Clike<'_> {
+    // The token of the next byte.
+    fn byte_token(&self, class: Class) -> Token
+        requires { NextByte self.now.file.now self.now.at }
+        ensures { result ≡ byte_token self.now.at class (slice_index self.now.file.now self.now.at) }
+    {
+        let from = self.at as u32;
+        Token {
+            code: u16::from(self.file[self.at]),
+            class,
+            from,
+            to: from + 1,
+        }
+    }
+
     // The token of the next byte, which begins a lexeme of some bytes.
     fn spell(&mut self, sort: Sort, size: usize) -> Token
-        requires { (self.old.at < length self.old.file.now) × ((length self.old.file.now ≤ 1048576) × (0 < size)) }
+        requires byte { NextByte self.old.file.now self.old.at }
+        requires some { 0 < size }
         ensures token { result ≡ byte_token self.old.at (sort_first sort) (slice_index self.old.file.now self.old.at) }
         ensures file { self.new.file ≡ self.old.file }
         ensures at { self.new.at ≡ self.old.at + 1 }
-        ensures left { self.new.left ≡ size - 1 }
-        ensures sort { self.new.sort ≡ sort }
+        ensures left { IsLeft sort (size - 1) self.new.begun }
         ensures unclosed { self.new.unclosed ≡ self.old.unclosed }
     {
-        let token = token_at(self.file, self.at, sort.first());
+        let token = self.byte_token(sort.first());
         self.at += 1;
-        self.left = size - 1;
-        self.sort = sort;
+        self.begun = Begun::of(sort, size - 1);
         token
     }
 
     // The comment that begins at the next byte is open: the list ends in its fault, unless the file has one of its own.
     fn note_open(&mut self)
-        requires { (self.old.at < length self.old.file.now) × (length self.old.file.now ≤ 1048576) }
+        requires { NextByte self.old.file.now self.old.at }
         ensures file { self.new.file ≡ self.old.file }
         ensures at { self.new.at ≡ self.old.at }
-        ensures unclosed { self.new.unclosed ≡ or_else self.old.unclosed (Some (file_fault OpenComment self.old.at)) }
+        ensures unclosed { self.new.unclosed ≡ option_or self.old.unclosed (Some (file_fault OpenComment self.old.at)) }
     {
-        if self.unclosed.is_none() {
-            self.unclosed = Some(Fault {
-                cause: Cause::OpenComment,
-                place: self.at as u32,
-                depth: 0,
-            });
-        }
+        let fault = file_fault(Cause::OpenComment, self.at as u32);
+        self.unclosed = self.unclosed.or(Some(fault));
     }
 
     // Begins the next lexeme: its first token.
     fn begin(&mut self) -> Token
-        requires within { self.old.at < length self.old.file.now }
-        requires short { length self.old.file.now ≤ 1048576 }
+        requires byte { NextByte self.old.file.now self.old.at }
         requires some { slice_index self.old.file.now self.old.at ≢ 0 }
-        requires new { self.old.left ≡ 0 }
+        requires new { self.old.begun ≡ None }
         ensures token { clike_left self.old ≡ result ∷ clike_left self.new }
         ensures ends { ending_left self.new ≡ ending_left self.old }
     {
@@ -137,7 +138,7 @@ impl Clike<'_> {
             Lexeme::Mark(run) => self.spell(Sort::Mark, run.len()),
             Lexeme::Keyword(run, number) => {
                 let from = self.at;
-                self.at = from + run.len();
+                self.at += run.len();
                 Token {
                     code: FIRST_KEYWORD + u16::from(number),
                     class: Class::Keyword,
@@ -164,22 +165,18 @@ impl Source for Clike<'_> {
         if self.file.len() > LIMIT {
             return Err(file_fault(Cause::TooLong, 0));
         }
-        if self.at >= self.file.len() {
-            return match self.unclosed {
-                None => Ok(None),
-                Some(fault) => Err(fault),
-            };
-        }
-        let b = self.file[self.at];
-        if b == 0 {
+        let Some(b) = self.file.get(self.at) else {
+            return self.unclosed.map_or(Ok(None), Err);
+        };
+        if *b == 0 {
             return Err(file_fault(Cause::ZeroByte, self.at as u32));
         }
-        if self.left == 0 {
+        let Some(begun) = self.begun else {
             return Ok(Some(self.begin()));
-        }
-        let token = token_at(self.file, self.at, self.sort.further());
+        };
+        let token = self.byte_token(begun.sort.further());
         self.at += 1;
-        self.left -= 1;
+        self.begun = Begun::of(begun.sort, begun.left.get() - 1);
         Ok(Some(token))
     }
 

@@ -1,52 +1,39 @@
 // How far runs, quotes and comments go. Each scan stops at a zero byte, where reading ends.
-ghost use Rattle.std.specs.Prelude.{◌≡◌, ◌+◌, ◌<◌, ◌≤◌, false, ◌&&◌, length, drop, slice_index};
+ghost use Rattle.std.specs.Prelude.{◌≡◌, ℕ, ◌≤◌, Bool, false, length};
 ghost use Rattle.std.specs.List.{prefix_len};
-ghost use Rattle.tokens.specs.Texts.{nonzero};
-ghost use Rattle.clike.specs.Lexemes.{read, in_word, quoted_on, closing};
-ghost use Rattle.clike.specs.Scans.{in_run, comment_end, end_size};
+ghost use Rattle.clike.specs.Lexemes.{read, in_word, in_number, in_line, quoted_on};
+ghost use Rattle.clike.specs.Scans.{Computes, comment_end, end_size};
 
 use tokens::bytes::{is_digit, is_letter};
 
-// What a run consists of.
-#[derive(Clone, Copy)]
-pub enum Run {
-    // Letters, digits and `_`.
-    Word,
-    // Letters, digits, `_` and `.`.
-    Number,
-    // All bytes but line feeds.
-    Line,
-}
-
-fn in_word(b: u8) -> bool
+// The bytes of keywords and names.
+pub fn in_word(b: u8) -> bool
     ensures { result ≡ in_word b }
 {
     is_letter(b) || b == b'_' || is_digit(b)
 }
 
-// Whether a run goes on with a byte.
-fn goes_on(run: Run, b: u8) -> bool
-    ensures { result ≡ (nonzero b && in_run run b) }
+// The bytes of numbers.
+pub fn in_number(b: u8) -> bool
+    ensures { result ≡ in_number b }
 {
-    b != 0
-        && match run {
-            Run::Word => in_word(b),
-            Run::Number => in_word(b) || b == b'.',
-            Run::Line => b != b'\n',
-        }
+    in_word(b) || b == b'.'
 }
 
-// How many bytes the longest run at the front has.
-pub fn run_length(run: Run, bytes: &[u8]) -> usize
-    ensures count { result ≡ prefix_len (in_run run) (read bytes.now) }
+// The bytes of a comment that ends with its line.
+pub fn in_line(b: u8) -> bool
+    ensures { result ≡ in_line b }
+{
+    b != b'\n'
+}
+
+// How many bytes at the front pass the test.
+pub fn run_length<F: Fn(u8) -> bool>(bytes: &[u8], test: F) -> usize
+    requires { F.IsAlwaysCallable test }
+    ensures count { (p : ℕ → Bool) → Computes (F.post test) p → result ≡ prefix_len p (read bytes.now) }
     ensures bound { result ≤ length bytes.now }
 {
-    for (i, b) in bytes.iter().enumerate() {
-        if !goes_on(run, *b) {
-            return i;
-        }
-    }
-    bytes.len()
+    bytes.iter().take_while(|b| **b != 0 && test(**b)).count()
 }
 
 // How many of the bytes after an opening quote belong to its lexeme.
@@ -72,34 +59,17 @@ pub fn quoted_length(quote: u8, body: &[u8]) -> usize
     body.len()
 }
 
-// Where a comment ends, in bytes after its `/*`: behind the first `*/`, or where reading ends.
-pub enum CommentEnd {
-    Closed(usize),
-    Open(usize),
-}
-
-// Whether `*/` stands at a place.
-fn closes_at(body: &[u8], i: usize) -> bool
-    requires { i < length body.now }
-    ensures { result ≡ closing (slice_index body.now i) (read (drop (i + 1) body.now)) }
-{
-    if i + 1 >= body.len() {
-        return false;
-    }
-    body[i] == b'*' && body[i + 1] == b'/'
-}
-
-pub fn comment_end(body: &[u8]) -> CommentEnd
+// Where a comment ends, in bytes after its `/*`: `Ok` behind the first `*/`, or `Err` where reading ends with none.
+pub fn comment_end(body: &[u8]) -> Result<usize, usize>
     ensures ends { result ≡ comment_end (read body.now) }
     ensures bound { end_size result ≤ length body.now }
 {
-    for (i, b) in body.iter().enumerate() {
-        if *b == 0 {
-            return CommentEnd::Open(i);
-        }
-        if closes_at(body, i) {
-            return CommentEnd::Closed(i + 2);
+    for i in 0..body.len() {
+        match &body[i..] {
+            [0, ..] => return Err(i),
+            [b'*', b'/', ..] => return Ok(i + 2),
+            _ => {}
         }
     }
-    CommentEnd::Open(body.len())
+    Err(body.len())
 }

@@ -1,8 +1,9 @@
 // The state of a C-like source.
+use std::num::NonZeroUsize;
 use tokens::token::Fault;
 
 // The lexemes that give one token a byte.
-#[derive(Clone, Copy)]
+#[derive(Clone, Copy, PartialEq, Eq, Debug)]
 pub enum Sort {
     Blank,
     Comment,
@@ -12,13 +13,19 @@ pub enum Sort {
     Mark,
 }
 
-// A C-like file. `at` is the place of the next byte; `left` is how many bytes from there on belong to the lexeme that was
-// begun, and `sort` is what it is; `unclosed` is the fault of the open comment that was begun, if one was.
+// A lexeme that was begun, and how many of its bytes are still to come.
+#[derive(Clone, Copy, PartialEq, Eq, Debug)]
+pub struct Begun {
+    pub sort: Sort,
+    pub left: NonZeroUsize,
+}
+
+// A C-like file. `at` is the place of the next byte; `begun` is the lexeme that it belongs to, if it does not begin one;
+// `unclosed` is the fault of the open comment that was begun, if one was.
 #[derive(Clone, Copy)]
 pub struct Clike<'a> {
     pub file: &'a [u8],
     pub at: usize,
-    pub left: usize,
-    pub sort: Sort,
+    pub begun: Option<Begun>,
     pub unclosed: Option<Fault>,
 }

@@ -1,9 +1,10 @@
 use Rattle.std.proofs.Common.{◌≡◌, ◌+◌, ◌≤◌, true, length, sym, ap, ◌∙◌, subst, zero-add, arith}
+use Rattle.std.specs.Option.{option_or}
 use Rattle.tokens.specs.Tokens.{limit}
 use Rattle.tokens.specs.Texts.{text_ending}
 use Rattle.clike.specs.Texts.{text_read, text_at}
 use Rattle.clike.specs.Lexemes.{lexemes}
-use Rattle.clike.specs.Clikes.{tokens_of, or_else, open_fault, clike_tokens}
+use Rattle.clike.specs.Clikes.{tokens_of, open_fault, clike_tokens}
 use Rattle.clike.specs.Covering.{EndToEnd}
 use Rattle.clike.proofs.Plain.{plain}
 use Rattle.clike.proofs.Chains.{chain_text, chain_end_to_end}
@@ -22,7 +23,7 @@ returns c =
     let tokens : tokens_of 0 (lexemes (text_at file 0)) ≡ clike_tokens text = ap (λ xs. tokens_of 0 (lexemes xs)) start in
     record {
       tokens = tokens;
-      ending = ap (λ xs. or_else (text_ending file 0) (open_fault 0 (lexemes xs))) start;
+      ending = ap (λ xs. option_or (text_ending file 0) (open_fault 0 (lexemes xs))) start;
       chained = subst (λ ts. EndToEnd 0 ts (length text)) (sym tokens) chain;
       once = covers_once _ _ (subst (λ ts. EndToEnd 0 ts (length text)) (sym tokens) chain);
     }
