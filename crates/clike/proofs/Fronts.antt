@@ -2,7 +2,7 @@
 use Rattle.std.proofs.Common.{◌≡◌, ℕ, zero, suc, ◌+◌, ◌<◌, ◌≤◌, Bool, true, false, cond, not, ◌&&◌, ◌||◌, eqb, List, [], ◌∷◌, length, get_or, take, drop, sym, refl, ap, ◌∙◌, ⊎_elim, one-add, arith}
 use Rattle.std.proofs.lemmas.List.{at_drop_more, at_drop_all}
 use Rattle.std.specs.List.{prefix_len}
-use Rattle.std.proofs.lemmas.Bool.{cond_both, cond-true, cond-false, eq-eqb, ne_eqb, and_parts, cases_eq, cases_lt, both_ways, or_left}
+use Rattle.std.proofs.lemmas.Bool.{cond_both, cond-true, cond-false, eq-eqb, ne_eqb, cases_eq}
 use Rattle.tokens.specs.Texts.{nonzero}
 use Rattle.clike.specs.Lexemes.{read, begins_with, closing, closes, before_close, quoted_on}
 
@@ -36,19 +36,7 @@ next_none c xs i h = read_ends (begins_with c) xs i h
 
 -- ---- comments
 
--- where `*/` stands there are two bytes
-pub close_room : (xs : List ℕ) (i : ℕ) → i < length xs → closing (get_or xs i 0) (read (drop (i + 1) xs)) ≡ true → i + 2 ≤ length xs
-close_room xs i h e =
-    let slash = (and_parts (eqb (get_or xs i 0) 42) (begins_with 47 (read (drop (i + 1) xs))) e).1 in
-    ⊎_elim (λ more. omega arith) (λ none. absurd (both_ways (begins_with 47 (read (drop (i + 1) xs))) (next_none 47 xs (i + 1) none) slash)) (cases_lt (i + 1) (length xs))
-
 module _ (xs : List ℕ) (i : ℕ) (h : i < length xs) (ne : get_or xs i 0 ≡ 0 → ⊥) where
-  pub closes_here : closing (get_or xs i 0) (read (drop (i + 1) xs)) ≡ true → (closes (read (drop i xs)) ≡ true) × (before_close (read (drop i xs)) ≡ 0)
-  closes_here e = (
-    read_more closes xs i h ne ∙ or_left _ (closes (read (drop (i + 1) xs))) e,
-    read_more before_close xs i h ne ∙ cond-true (closing (get_or xs i 0) (read (drop (i + 1) xs))) _ _ e,
-  )
-
   pub closes_later : closing (get_or xs i 0) (read (drop (i + 1) xs)) ≡ false → (closes (read (drop i xs)) ≡ closes (read (drop (i + 1) xs))) × (before_close (read (drop i xs)) ≡ 1 + before_close (read (drop (i + 1) xs)))
   closes_later e = (
     read_more closes xs i h ne ∙ ap (λ t. t || closes (read (drop (i + 1) xs))) e,
@@ -59,21 +47,6 @@ module _ (xs : List ℕ) (i : ℕ) (h : i < length xs) (ne : get_or xs i 0 ≡ 0
   length_later = read_more length xs i h ne ∙ sym (one-add (length (read (drop (i + 1) xs))))
 
 -- ---- quotes
-
-module _ (q : ℕ) (xs : List ℕ) (i : ℕ) (h : i < length xs) (ne : get_or xs i 0 ≡ 0 → ⊥) where
-  pub quote_taken : quoted_on q true (read (drop i xs)) ≡ 1 + quoted_on q false (read (drop (i + 1) xs))
-  quote_taken = read_more (quoted_on q true) xs i h ne
-
-  pub quote_closed : get_or xs i 0 ≡ q → quoted_on q false (read (drop i xs)) ≡ 1
-  quote_closed e = read_more (quoted_on q false) xs i h ne ∙ cond-true (eqb (get_or xs i 0) q) _ _ (eq-eqb (get_or xs i 0) q e)
-
-  pub quote_cut : (get_or xs i 0 ≡ q → ⊥) → get_or xs i 0 ≡ 10 → quoted_on q false (read (drop i xs)) ≡ 0
-  quote_cut no-quote e =
-      read_more (quoted_on q false) xs i h ne ∙ cond-false (eqb (get_or xs i 0) q) _ _ (ne_eqb (get_or xs i 0) q no-quote) ∙ cond-true (eqb (get_or xs i 0) 10) _ _ (eq-eqb (get_or xs i 0) 10 e)
-
-  pub quote_on : (get_or xs i 0 ≡ q → ⊥) → (get_or xs i 0 ≡ 10 → ⊥) → quoted_on q false (read (drop i xs)) ≡ 1 + quoted_on q (eqb (get_or xs i 0) 92) (read (drop (i + 1) xs))
-  quote_on no-quote no_line =
-      read_more (quoted_on q false) xs i h ne ∙ cond-false (eqb (get_or xs i 0) q) _ _ (ne_eqb (get_or xs i 0) q no-quote) ∙ cond-false (eqb (get_or xs i 0) 10) _ _ (ne_eqb (get_or xs i 0) 10 no_line)
 
 pub quote_none : (q : ℕ) (taken : Bool) → quoted_on q taken [] ≡ 0
 quote_none q true = refl

@@ -1,5 +1,4 @@
 pub mod Plain
-pub mod Words
 pub mod Fronts
 pub mod Shapes
 pub mod Pieces

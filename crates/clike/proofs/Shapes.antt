@@ -228,6 +228,3 @@ number_read bytes n h e count =
     let ne : b ≡ 0 → ⊥ = λ z. both_ways (is_digit b) (ap is_digit z) e in
     let text : read bytes ≡ b ∷ read (drop 1 bytes) = read_more (λ xs. xs) bytes 0 h ne in
     number_rule b (read (drop 1 bytes)) e ∙ ap (λ xs. shape number (prefix_len in_number xs)) (sym text) ∙ ap (shape number) (sym count)
-
-pub nothing_cut : (bytes : List ℕ) → read bytes ≡ [] → Cuts bytes Nothing bytes
-nothing_cut bytes e = record { first = sym (ap first_lexeme e); whole = refl; some = λ h. absurd (omega (arith, ap length e)) }

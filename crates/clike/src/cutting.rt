@@ -34,6 +34,7 @@ pub fn cut_all<'a>(heap: Global, bytes: &'a [u8]) -> Result<Vec<Lexeme<'a>>, All
     ensures lexemes { IfOk result (λ v. map seen v.items ≡ map Some (lexemes (read bytes.now))) }
     ensures whole { IfOk result (λ v. flat_map lexeme_bytes v.items ≡ read bytes.now) }
 {
+    // A loop: `collect` would want an iterator type of its own for this one use.
     let mut list = Vec::new(heap);
     let mut left = bytes;
     loop {

@@ -27,7 +27,7 @@ pub fn in_line(b: u8) -> bool
     b != b'\n'
 }
 
-// How many bytes at the front pass the test.
+// How many bytes at the front pass the test; a zero byte ends the run.
 pub fn run_length<F: Fn(u8) -> bool>(bytes: &[u8], test: F) -> usize
     requires { F.IsAlwaysCallable test }
     ensures count { (p : ℕ → Bool) → Computes (F.post test) p → result ≡ prefix_len p (read bytes.now) }
@@ -41,6 +41,7 @@ pub fn quoted_length(quote: u8, body: &[u8]) -> usize
     ensures count { result ≡ quoted_on quote false (read body.now) }
     ensures bound { result ≤ length body.now }
 {
+    // A loop: what a byte means hangs on the ones before it, so that no test of single bytes finds the end.
     let mut taken = false;
     for (i, b) in body.iter().enumerate() {
         if *b == 0 {
@@ -64,6 +65,7 @@ pub fn comment_end(body: &[u8]) -> Result<usize, usize>
     ensures ends { result ≡ comment_end (read body.now) }
     ensures bound { end_size result ≤ length body.now }
 {
+    // A loop over places: `windows(2)` would leave out the last byte, which may be zero.
     for i in 0..body.len() {
         match &body[i..] {
             [0, ..] => return Err(i),

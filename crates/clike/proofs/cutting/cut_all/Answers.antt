@@ -1,7 +1,7 @@
-use Rattle.std.proofs.Common.{◌≡◌, [], ◌∷◌, ◌++◌, map, length, Some, vec_items, sym, ap, ◌∙◌, arith}
-use Rattle.std.proofs.lemmas.List.{append_assoc, append-nil, map_push, length-append}
+use Rattle.std.proofs.Common.{◌≡◌, [], ◌∷◌, ◌++◌, map, Some, vec_items, sym, ap, ◌∙◌}
+use Rattle.std.proofs.lemmas.List.{append_assoc, append-nil, map_push}
 use Rattle.clike.specs.Lexemes.{read, lexemes}
-use Rattle.clike.specs.Cutting.{seen, lexeme_bytes}
+use Rattle.clike.specs.Cutting.{seen}
 use Rattle.clike.proofs.Rows.{cut_more, cut_none, joined_whole}
 use Rattle.clike.proofs.cutting.cut_all.Goals as goal
 
@@ -13,12 +13,6 @@ loop-list-preserved c =
     let split = (cut_more c.loop-list.left.now c.cut.result.1.now l c.cut.ensures c.in_default.not-Nothing).0 in
     ap (λ xs. map seen xs ++ new) c.in_ok-push.ensures.items ∙ ap (λ xs. xs ++ new) (map_push seen items l) ∙ append_assoc (map seen items) (seen l ∷ []) new
     ∙ ap (λ xs. map seen items ++ xs) (sym split) ∙ c.loop-list.invariant
-
-pub loop-list-smaller : goal.loop-list-smaller
-loop-list-smaller c =
-    let l = c.cut.result.0 in
-    let some = (cut_more c.loop-list.left.now c.cut.result.1.now l c.cut.ensures c.in_default.not-Nothing).1 in
-    omega (arith, length-append (lexeme_bytes l) c.cut.result.1.now, ap length c.cut.ensures.whole, some)
 
 pub returns-in-Nothing : goal.returns-in-Nothing
 returns-in-Nothing c =

@@ -30,20 +30,17 @@ placed : (text : List ℕ) (at : ℕ) (begun : Option Begun) → plain (drop at 
 placed text at None p short = subst (λ n. Placed (tokens_of n (lexemes (drop n text)))) (add-zero at) (placed_at text at 0 class.Blank (omega arith) p short)
 placed text at (Some b) p short = placed_at text at (non_zero_usize_get b.left) (sort_further b.sort) (classed b.sort) p short
 
-pub returns : goal.returns
-returns c =
+pub returns-clause-placed : goal.returns-clause-placed
+returns-clause-placed c =
     let self = c.args.self.now in
     let file = self.file.now in
     let at = self.at in
     let text = text_at file at in
-    record {
-      placed = ⊎_elim
-          (λ none. subst Placed (sym (done text at self.begun (text_ends file at none))) tt)
-          (λ ne.
-          let within = reads_within file at (omega (arith, ne)) in
-          let size = text_length file at (omega (arith, ne)) in
-          let short : length text ≤ limit = omega (arith, size, within.0, within.1) in
-          placed text at self.begun (text_plain file at c.are_bytes.ensures) short)
-          (cases_eq (readable file at) 0);
-      shallow = omega arith;
-    }
+    ⊎_elim
+    (λ none. subst Placed (sym (done text at self.begun (text_ends file at none))) tt)
+    (λ ne.
+    let within = reads_within file at (omega (arith, ne)) in
+    let size = text_length file at (omega (arith, ne)) in
+    let short : length text ≤ limit = omega (arith, size, within.0, within.1) in
+    placed text at self.begun (text_plain file at c.are_bytes.ensures) short)
+    (cases_eq (readable file at) 0)

@@ -1,9 +1,9 @@
-use Rattle.std.proofs.Common.{◌≡◌, ◌+◌, ◌-◌, ◌<◌, ◌≤◌, [], ◌∷◌, length, get_or, Some, None, Ok, Err, Option, Result, MatchOption, sym, refl, ap, ◌∙◌, subst, arith}
+use Rattle.std.proofs.Common.{◌≡◌, ◌+◌, ◌-◌, ◌<◌, [], ◌∷◌, length, get_or, Some, None, Ok, Err, Option, Result, MatchOption, sym, refl, ap, ◌∙◌, subst, arith}
 use Rattle.std.specs.Int.NonZero.{non_zero_usize_get}
 use Rattle.std.specs.Option.{option_or}
 use Rattle.tokens.specs.declared.token.Token.{Token}
 use Rattle.tokens.specs.declared.token.Fault.{Fault}
-use Rattle.tokens.specs.Tokens.{limit, first, rest}
+use Rattle.tokens.specs.Tokens.{first, rest}
 use Rattle.tokens.specs.Texts.{readable, text_ending}
 use Rattle.tokens.proofs.Texts.{long_none, long_ends, past_none, past_ends, zero_none, zero_ends}
 use Rattle.clike.specs.declared.state.Clike.{Clike}
@@ -14,30 +14,28 @@ use Rattle.clike.proofs.Readings.{text_ends, text_inside, text_byte, some_read}
 use Rattle.clike.proofs.Steps.{follows, done, ended, further_tokens, further_ending, same_left, same_ending}
 use Rattle.clike.proofs.reading.ClikeSource.next.Goals as goal
 
--- nothing is to come where nothing is read
-none_left : (s : Clike) → readable s.file.now s.at ≡ 0 → clike_left s ≡ []
-none_left s e = done (text_at s.file.now s.at) s.at s.begun (text_ends s.file.now s.at e)
+-- where nothing is read nothing is taken off, and the answer is the file's own fault or that of an open comment
+record Stops (s : Clike) (own : Option Fault) : Type 0 where
+  pub answer : first (clike_left s) (ending_left s) ≡ first [] (option_or own s.unclosed)
+  pub left : clike_left s ≡ rest (clike_left s)
 
-none_open : (s : Clike) (own : Option Fault) → text_ending s.file.now s.at ≡ own → readable s.file.now s.at ≡ 0 → ending_left s ≡ option_or own s.unclosed
-none_open s own o e =
-    ap (λ x. option_or x (open_at (text_at s.file.now s.at) s.at (bytes_left s.begun) s.unclosed)) o
-    ∙ ap (option_or own) (ended (text_at s.file.now s.at) s.at (bytes_left s.begun) s.unclosed (text_ends s.file.now s.at e))
+stops : (s : Clike) (own : Option Fault) → readable s.file.now s.at ≡ 0 → text_ending s.file.now s.at ≡ own → Stops s own
+stops s own none e =
+    let text = text_at s.file.now s.at in
+    let ends = text_ends s.file.now s.at none in
+    let list : clike_left s ≡ [] = done text s.at s.begun ends in
+    record {
+      answer = ap (λ ts. first ts (ending_left s)) list ∙ ap (λ x. first [] (option_or x (open_at text s.at (bytes_left s.begun) s.unclosed))) e
+          ∙ ap (λ x. first [] (option_or own x)) (ended text s.at (bytes_left s.begun) s.unclosed ends);
+      left = list ∙ sym (ap rest list);
+    }
 
 pub returns-then-self-gt-LIMIT : goal.returns-then-self-gt-LIMIT
 returns-then-self-gt-LIMIT c =
     let self = c.args.self.now in
-    let none = long_none self.file.now self.at c.if-self-gt-LIMIT.true in
-    let list = none_left self none in
-    let end = none_open self _ (long_ends self.file.now self.at c.if-self-gt-LIMIT.true) none in
-    let fault = c.file_fault.ensures in
-    record { answer = cc (ap (λ x. first x (ending_left self)) list, ap (first []) end); left = list ∙ sym (ap rest list); ends = refl; stays = refl }
-
--- past the last byte the answer is the fault of an open comment, if one was begun, and nothing is taken off
-past : (s : Clike) → length s.file.now ≤ limit → length s.file.now ≤ s.at → (first (clike_left s) (ending_left s) ≡ first [] s.unclosed) × (clike_left s ≡ rest (clike_left s))
-past s short h =
-    let none = past_none s.file.now s.at short h in
-    let list = none_left s none in
-    (ap (λ x. first x (ending_left s)) list ∙ ap (first []) (none_open s None (past_ends s.file.now s.at short h) none), list ∙ sym (ap rest list))
+    let long = c.if-self-gt-LIMIT.true in
+    let end = stops self _ (long_none self.file.now self.at long) (long_ends self.file.now self.at long) in
+    record { answer = ap Err c.file_fault.ensures ∙ sym end.answer; left = end.left; ends = refl; stays = refl }
 
 answered : (o : Option Fault) (r : Result (Option Token) Fault) → MatchOption o (r ≡ Ok None) (λ f. r ≡ Err f) → r ≡ first [] o
 answered None r e = e
@@ -46,19 +44,18 @@ answered (Some f) r e = e
 pub returns-in_default : goal.returns-in_default
 returns-in_default c =
     let self = c.args.self.now in
-    let end = past self c.if-self-gt-LIMIT.false (grind arith) in
-    record { answer = answered self.unclosed _ c.map_or.ensures ∙ sym end.0; left = end.1; ends = refl; stays = refl }
+    let short = c.if-self-gt-LIMIT.false in
+    let end = stops self None (past_none self.file.now self.at short (grind arith)) (past_ends self.file.now self.at short (grind arith)) in
+    record { answer = answered self.unclosed _ c.map_or.ensures ∙ sym end.answer; left = end.left; ends = refl; stays = refl }
 
 pub returns-then-b-eq0 : goal.returns-then-b-eq0
 returns-then-b-eq0 c =
     let self = c.args.self.now in
+    let short = c.if-self-gt-LIMIT.false in
     let inside : self.at < length self.file.now = grind arith in
     let is : get_or self.file.now self.at 0 ≡ 0 = grind arith in
-    let none = zero_none self.file.now self.at c.if-self-gt-LIMIT.false inside is in
-    let list = none_left self none in
-    let end = none_open self _ (zero_ends self.file.now self.at c.if-self-gt-LIMIT.false inside is) none in
-    let fault = c.file_fault-then-b-eq0.ensures in
-    record { answer = cc (ap (λ x. first x (ending_left self)) list, ap (first []) end); left = list ∙ sym (ap rest list); ends = refl; stays = refl }
+    let end = stops self _ (zero_none self.file.now self.at short inside is) (zero_ends self.file.now self.at short inside is) in
+    record { answer = ap Err c.file_fault-then-b-eq0.ensures ∙ sym end.answer; left = end.left; ends = refl; stays = refl }
 
 pub returns : goal.returns
 returns c =
