@@ -6,21 +6,18 @@ use std::test::Fail;
 use tokens::source::Source;
 use tokens::token::{Fault, Token};
 
-fn next_is(
+// The next tokens have these codes and classes, and cover these places.
+fn next_are<S: Source>(
     rt: &impl Abort,
-    answer: Result<Option<Token>, Fault>,
-    code: u16,
-    class: u8,
-    from: u32,
-    to: u32,
+    source: &mut S,
+    rows: &[(u16, u8, u32, u32)],
 ) -> Result<(), Fail> {
-    let Ok(Some(token)) = answer else {
-        return Err(Fail::new("the list has ended"));
-    };
-    assert_eq!(rt; token.code, code);
-    assert_eq!(rt; token.class.number(), class);
-    assert_eq!(rt; token.from, from);
-    assert_eq!(rt; token.to, to);
+    for row in rows {
+        let Ok(Some(token)) = source.next() else {
+            return Err(Fail::new("the list has ended"));
+        };
+        assert_eq!(rt; (token.code, token.class as u8, token.from, token.to), *row);
+    }
     Ok(())
 }
 
@@ -33,9 +30,10 @@ fn fault_is(
     let Err(fault) = answer else {
         return Err(Fail::new("no fault"));
     };
-    assert_eq!(rt; fault.cause.number(), cause);
-    assert_eq!(rt; fault.place, place);
-    assert_eq!(rt; fault.depth, 0);
+    assert_eq!(rt;
+        (fault.cause as u8, fault.place, fault.depth),
+        (cause, place, 0)
+    );
     Ok(())
 }
 
@@ -49,10 +47,16 @@ fn clean(answer: Result<Option<Token>, Fault>) -> Result<(), Fail> {
 #[test]
 fn names_over_a_condition(rt: HostRuntime) -> Result<(), Fail> {
     let mut source = Names::over(Clike::new(b"if(ab)"));
-    next_is(&rt, source.next(), 271, 4, 0, 2)?;
-    next_is(&rt, source.next(), 40, 7, 2, 3)?;
-    next_is(&rt, source.next(), 300, 10, 3, 5)?;
-    next_is(&rt, source.next(), 41, 7, 5, 6)?;
+    next_are(
+        &rt,
+        &mut source,
+        &[
+            (271, 4, 0, 2),
+            (40, 7, 2, 3),
+            (300, 10, 3, 5),
+            (41, 7, 5, 6),
+        ],
+    )?;
     clean(source.next())?;
     clean(source.next())
 }
@@ -61,10 +65,11 @@ fn names_over_a_condition(rt: HostRuntime) -> Result<(), Fail> {
 fn an_open_comment(rt: HostRuntime) -> Result<(), Fail> {
     let mut source = Clike::new(b"a/*/");
     assert_eq!(rt; source.depth(), 0);
-    next_is(&rt, source.next(), 97, 2, 0, 1)?;
-    next_is(&rt, source.next(), 47, 9, 1, 2)?;
-    next_is(&rt, source.next(), 42, 9, 2, 3)?;
-    next_is(&rt, source.next(), 47, 9, 3, 4)?;
+    next_are(
+        &rt,
+        &mut source,
+        &[(97, 2, 0, 1), (47, 9, 1, 2), (42, 9, 2, 3), (47, 9, 3, 4)],
+    )?;
     fault_is(&rt, source.next(), 3, 1)?;
     fault_is(&rt, source.next(), 3, 1)
 }
@@ -72,24 +77,30 @@ fn an_open_comment(rt: HostRuntime) -> Result<(), Fail> {
 #[test]
 fn each_class(rt: HostRuntime) -> Result<(), Fail> {
     let mut source = Clike::new(b" b1 2c\"'\"//");
-    next_is(&rt, source.next(), 32, 1, 0, 1)?;
-    next_is(&rt, source.next(), 98, 2, 1, 2)?;
-    next_is(&rt, source.next(), 49, 3, 2, 3)?;
-    next_is(&rt, source.next(), 32, 1, 3, 4)?;
-    next_is(&rt, source.next(), 50, 5, 4, 5)?;
-    next_is(&rt, source.next(), 99, 6, 5, 6)?;
-    next_is(&rt, source.next(), 34, 8, 6, 7)?;
-    next_is(&rt, source.next(), 39, 8, 7, 8)?;
-    next_is(&rt, source.next(), 34, 8, 8, 9)?;
-    next_is(&rt, source.next(), 47, 9, 9, 10)?;
-    next_is(&rt, source.next(), 47, 9, 10, 11)?;
+    next_are(
+        &rt,
+        &mut source,
+        &[
+            (32, 1, 0, 1),
+            (98, 2, 1, 2),
+            (49, 3, 2, 3),
+            (32, 1, 3, 4),
+            (50, 5, 4, 5),
+            (99, 6, 5, 6),
+            (34, 8, 6, 7),
+            (39, 8, 7, 8),
+            (34, 8, 8, 9),
+            (47, 9, 9, 10),
+            (47, 9, 10, 11),
+        ],
+    )?;
     clean(source.next())
 }
 
 #[test]
 fn a_zero_byte_ends_the_list(rt: HostRuntime) -> Result<(), Fail> {
     let mut source = Clike::new(b"do\0while");
-    next_is(&rt, source.next(), 263, 4, 0, 2)?;
+    next_are(&rt, &mut source, &[(263, 4, 0, 2)])?;
     fault_is(&rt, source.next(), 2, 2)?;
     fault_is(&rt, source.next(), 2, 2)
 }
@@ -98,8 +109,7 @@ fn a_zero_byte_ends_the_list(rt: HostRuntime) -> Result<(), Fail> {
 #[test]
 fn a_zero_byte_in_an_open_comment(rt: HostRuntime) -> Result<(), Fail> {
     let mut source = Clike::new(b"/*\0");
-    next_is(&rt, source.next(), 47, 9, 0, 1)?;
-    next_is(&rt, source.next(), 42, 9, 1, 2)?;
+    next_are(&rt, &mut source, &[(47, 9, 0, 1), (42, 9, 1, 2)])?;
     fault_is(&rt, source.next(), 2, 2)
 }
 
@@ -113,22 +123,20 @@ fn an_empty_file() -> Result<(), Fail> {
 fn a_file_over_the_limit(rt: HostRuntime) -> Result<(), Fail> {
     let most = vec![in rt.alloc(); b'/'; 1048576]?;
     let mut source = Clike::new(most.as_slice());
-    next_is(&rt, source.next(), 47, 9, 0, 1)?;
+    next_are(&rt, &mut source, &[(47, 9, 0, 1)])?;
     let more = vec![in rt.alloc(); b'/'; 1048577]?;
     let mut none = Clike::new(more.as_slice());
     fault_is(&rt, none.next(), 1, 0)
 }
 
-// How many tokens a list has, if it ends clean before that many more than fit a file.
+// How many tokens a list has, if it ends before one more than fit a file.
 fn count<S: Source>(source: &mut S) -> u32 {
-    let mut tokens = 0u32;
-    for _ in 0..1_048_577u32 {
-        match source.next() {
-            Ok(Some(_)) => tokens = tokens.saturating_add(1),
-            _ => return tokens,
-        }
+    for tokens in 0..1_048_577 {
+        let Ok(Some(_)) = source.next() else {
+            return tokens;
+        };
     }
-    tokens
+    1_048_577
 }
 
 // 65,536 lines of 16 bytes and 15 tokens each: as large as a file may be.

@@ -38,27 +38,30 @@ const WORDS: [&[u8]; 32] = [
     b"while",
 ];
 
-// The number of the keyword that the bytes begin with, if all of them are it; 32 where they are a name, else 33.
-fn number(bytes: &[u8]) -> u8 {
-    let (lexeme, rest) = cut(bytes);
-    if !rest.is_empty() {
-        return 33;
-    }
-    match lexeme {
-        Lexeme::Keyword(_, number) => number,
-        Lexeme::Name(_) => 32,
-        _ => 33,
+// What bytes are to the cutter.
+#[derive(Clone, Copy, PartialEq, Eq, Debug)]
+enum Word {
+    Keyword(u8),
+    Name,
+    // Another lexeme, or more than one.
+    Other,
+}
+
+impl Word {
+    fn of(bytes: &[u8]) -> Word {
+        match cut(bytes) {
+            (Lexeme::Keyword(_, number), []) => Word::Keyword(number),
+            (Lexeme::Name(_), []) => Word::Name,
+            _ => Word::Other,
+        }
     }
 }
 
 #[test]
 fn each_keyword_has_its_number(rt: HostRuntime) {
-    let mut wanted = 0u8;
-    for word in WORDS.iter() {
-        assert_eq!(rt; number(word), wanted);
-        wanted = wanted.saturating_add(1);
+    for (wanted, word) in (0..32u8).zip(WORDS.iter()) {
+        assert_eq!(rt; Word::of(word), Word::Keyword(wanted));
     }
-    assert_eq!(rt; wanted, 32);
 }
 
 #[test]
@@ -66,7 +69,7 @@ fn a_letter_more_is_a_name(rt: HostRuntime) -> Result<(), Fail> {
     for word in WORDS.iter() {
         let mut longer = word.to_vec(rt.alloc())?;
         longer.push(b's')?;
-        assert_eq!(rt; number(longer.as_slice()), 32);
+        assert_eq!(rt; Word::of(longer.as_slice()), Word::Name);
     }
     Ok(())
 }
@@ -77,17 +80,17 @@ fn a_letter_less_is_a_name(rt: HostRuntime) -> Result<(), Fail> {
         let [shorter @ .., _] = *word else {
             return Err(Fail::new("an empty keyword"));
         };
-        assert_eq!(rt; number(shorter), 32);
+        assert_eq!(rt; Word::of(shorter), Word::Name);
     }
     Ok(())
 }
 
 #[test]
 fn capitals_are_no_keywords(rt: HostRuntime) {
-    assert_eq!(rt; number(b"IF"), 32);
-    assert_eq!(rt; number(b"While"), 32);
-    assert_eq!(rt; number(b"_if"), 32);
-    assert_eq!(rt; number(b"if_"), 32);
-    assert_eq!(rt; number(b"if0"), 32);
-    assert_eq!(rt; number(b"inline"), 32);
+    assert_eq!(rt; Word::of(b"IF"), Word::Name);
+    assert_eq!(rt; Word::of(b"While"), Word::Name);
+    assert_eq!(rt; Word::of(b"_if"), Word::Name);
+    assert_eq!(rt; Word::of(b"if_"), Word::Name);
+    assert_eq!(rt; Word::of(b"if0"), Word::Name);
+    assert_eq!(rt; Word::of(b"inline"), Word::Name);
 }
