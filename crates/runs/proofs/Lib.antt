@@ -1,3 +1,4 @@
 pub mod Tested
+pub mod Alike
 pub mod Grown
 pub mod Windows

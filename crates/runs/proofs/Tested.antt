@@ -1,7 +1,7 @@
 -- The gram test decides whether two grams are the same. Assumes nothing.
 use Rattle.std.proofs.Common.{◌≡◌, ℕ, ◌+◌, ◌<◌, ◌≤◌, Bool, true, false, leb, List, length, Decides, sym, refl, ⊎_elim}
 use Rattle.std.proofs.lemmas.Bool.{cases_Bool, leb-true, le-leb}
-use Rattle.std.proofs.lemmas.Bool.Decides.{Decides-and, Decides-below_and}
+use Rattle.std.proofs.lemmas.Bool.Decides.{Decides-and, Decides-below_and, same_from_decides}
 use Rattle.tokens.specs.declared.token.Token.{Token}
 use Rattle.runs.specs.Shares.{same_at, every_below, gram_same, SameGrams}
 
@@ -29,3 +29,7 @@ module _ (k : ℕ) (xs ys : List Token) (i j : ℕ) where
 
   pub answer_no : (SameGrams k xs ys i j → ⊥) → false ≡ gram_same k xs ys i j
   answer_no differ = ⊎_elim (λ e. absurd (differ (decides_grams.0 e))) (λ e. sym e) (cases_Bool (gram_same k xs ys i j))
+
+  -- what decides whether they are the same is the test
+  pub answer : (b : Bool) → Decides b (SameGrams k xs ys i j) → b ≡ gram_same k xs ys i j
+  answer b d = same_from_decides b _ d decides_grams

@@ -1,23 +1,13 @@
 // Tokens read as codes.
 ghost use Rattle.runs.specs.Passages.{codes as token_codes};
-ghost use Rattle.std.specs.Prelude.{◌≡◌, ◌<◌, length, slice_index_or};
-ghost use Rattle.runs.specs.Shares.{unused};
 
 use prints::walk::Codes;
 use tokens::token::Token;
 
-// The codes of tokens that stand in a slice, for the walk that chooses places.
+// The codes of tokens that stand in a slice, for the walk that chooses places. A type of its own, since Codes and Token are of other crates.
 #[derive(Clone, Copy)]
 pub struct TokenCodes<'a> {
     pub all: &'a [Token],
-}
-
-// The code of the token at i.
-fn code_at(all: &[Token], i: usize) -> u16
-    requires { i < length all.now }
-    ensures { result ≡ (slice_index_or all.now i unused).code }
-{
-    all[i].code
 }
 
 impl Codes for TokenCodes<'_> {
@@ -28,10 +18,6 @@ impl Codes for TokenCodes<'_> {
     }
 
     fn code(&self, i: usize) -> u16 {
-        if i < self.all.len() {
-            code_at(self.all, i)
-        } else {
-            0
-        }
+        self.all.get(i).map_or(0, |t| t.code)
     }
 }
