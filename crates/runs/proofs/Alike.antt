@@ -33,7 +33,7 @@ module _ (xs ys : List Token) where
 -- the token at d of those before i, the last first
 before : (xs : List Token) (i d : ℕ) → i ≤ length xs → d < i → get_or (reverse (take i xs)) d unused ≡ get_or xs (i - (d + 1)) unused
 before xs i d li l =
-    let n : length (take i xs) ≡ i = length-take i xs ∙ omega arith in
+    let n : length (take i xs) ≡ i = simp length-take (omega arith) in
     let e : length (take i xs) - 1 - d ≡ i - (d + 1) = omega arith in
     get_or-reverse (take i xs) d unused (omega arith) ∙ ap (λ m. get_or (take i xs) m unused) e ∙ get_or-take i xs (i - (d + 1)) unused (omega arith)
 
@@ -56,60 +56,46 @@ module _ (xs ys : List Token) (i j : ℕ) where
 
   -- before i and j, the last token first
   module _ (li : i ≤ length xs) (lj : j ≤ length ys) where
-    i_len : length (reverse (take i xs)) ≡ i
-    i_len = let l = length-take i xs in length-reverse (take i xs) ∙ omega arith
+    abbrev left : List Token
+    left = reverse (take i xs)
 
-    j_len : length (reverse (take j ys)) ≡ j
-    j_len = let l = length-take j ys in length-reverse (take j ys) ∙ omega arith
+    abbrev right : List Token
+    right = reverse (take j ys)
 
-    back : (d : ℕ) → d < i → d < j → same_at (reverse (take i xs)) (reverse (take j ys)) d d ≡ same_at xs ys (i - (d + 1)) (j - (d + 1))
+    back : (d : ℕ) → d < i → d < j → same_at left right d d ≡ same_at xs ys (i - (d + 1)) (j - (d + 1))
     back d l m = ap₂ same (before xs i d li l) (before ys j d lj m)
 
-    pub same_before_is : SameBefore xs ys i j (alike (reverse (take i xs)) (reverse (take j ys)))
+    pub same_before_is : SameBefore xs ys i j (alike left right)
     same_before_is =
-        let x = i_len in
-        let y = j_len in
-        let w = within (reverse (take i xs)) (reverse (take j ys)) in
+        let x : length left ≡ i = simp (length-reverse, length-take) (omega arith) in
+        let y : length right ≡ j = simp (length-reverse, length-take) (omega arith) in
+        let w = within left right in
         record {
           left_in = omega arith;
           right_in = omega arith;
-          each = λ d l. sym (back d (omega arith) (omega arith)) ∙ each (reverse (take i xs)) (reverse (take j ys)) d l;
-          stops = λ l m. sym (back (alike (reverse (take i xs)) (reverse (take j ys))) l m) ∙ stops (reverse (take i xs)) (reverse (take j ys)) (omega arith) (omega arith);
+          each = λ d l. sym (back d (omega arith) (omega arith)) ∙ each left right d l;
+          stops = λ l m. sym (back (alike left right) l m) ∙ stops left right (omega arith) (omega arith);
         }
 
   -- the grams of k tokens, where they are there
   module _ (k : ℕ) (li : i + k ≤ length xs) (lj : j + k ≤ length ys) where
-    abbrev left : List Token
-    left = take k (drop i xs)
+    abbrev grams : List (Token × Token)
+    grams = zip (take k (drop i xs)) (take k (drop j ys))
 
-    abbrev right : List Token
-    right = take k (drop j ys)
-
-    left_len : length left ≡ k
-    left_len = let l = length-drop i xs in length-take k (drop i xs) ∙ omega arith
-
-    right_len : length right ≡ k
-    right_len = let l = length-drop j ys in length-take k (drop j ys) ∙ omega arith
-
-    met : (d : ℕ) → d < k → partners (get_or (zip left right) d (unused, unused)) ≡ same_at xs ys (i + d) (j + d)
+    met : (d : ℕ) → d < k → partners (get_or grams d (unused, unused)) ≡ same_at xs ys (i + d) (j + d)
     met d l =
-        let a = left_len in
-        let b = right_len in
-        at left right d (omega arith) (omega arith) ∙ ap₂ same (get_or-take k (drop i xs) d unused l) (get_or-take k (drop j ys) d unused l) ∙ on d
+        at (take k (drop i xs)) (take k (drop j ys)) d (simp (length-take, length-drop) (omega arith)) (simp (length-take, length-drop) (omega arith))
+        ∙ ap₂ same (get_or-take k (drop i xs) d unused l) (get_or-take k (drop j ys) d unused l)
+        ∙ on d
 
-    zip_len : length (zip left right) ≡ k
-    zip_len =
-        let a = left_len in
-        let b = right_len in
-        length-zip left right ∙ omega arith
-
-    pub decides_all : Decides (list_all partners (zip left right)) (SameGrams k xs ys i j)
+    pub decides_all : Decides (list_all partners grams) (SameGrams k xs ys i j)
     decides_all =
-        let n = zip_len in (
+        let P : Token × Token → Type 0 = λ p. partners p ≡ true in
+        let n : length grams ≡ k = simp (length-zip, length-take, length-drop) (omega arith) in (
           λ e. record {
             left_in = li;
             right_in = lj;
-            each = λ d l. sym (met d l) ∙ All-get_or (λ p. partners p ≡ true) (zip left right) d (unused, unused) (omega arith) (AllPass-from_list_all partners (zip left right) e);
+            each = λ d l. sym (met d l) ∙ All-get_or P grams d (unused, unused) (omega arith) (AllPass-from_list_all partners grams e);
           },
-          λ h. list_all-from_AllPass partners (zip left right) (All-from_get_or (λ p. partners p ≡ true) (zip left right) (unused, unused) (λ d l. met d (omega arith) ∙ h.each d (omega arith))),
+          λ h. list_all-from_AllPass partners grams (All-from_get_or P grams (unused, unused) (λ d l. met d (omega arith) ∙ h.each d (omega arith))),
         )
