@@ -17,12 +17,9 @@ pub same_code : (a b : Token) → same a b ≡ true → a.code ≡ b.code
 unfolding same
 same_code a b e = eqb-true a.code b.code e
 
-pub length_codes : (ts : List Token) → length (codes ts) ≡ length ts
-length_codes ts = length-map ts (λ a. a.code)
-
 -- the codes of the k tokens from i on
 gram_length : (k i : ℕ) (ts : List Token) → i + k ≤ length ts → length (gram k (codes ts) i) ≡ k
-gram_length k i ts h = let e = length_codes ts in simp (length-take, length-drop) (omega arith)
+gram_length k i ts h = simp (length-take, length-drop, length-map) (omega arith)
 
 gram_at : (k i d : ℕ) (ts : List Token) → i + k ≤ length ts → d < k → get_or (gram k (codes ts) i) d 0 ≡ (get_or ts (i + d) unused).code
 gram_at k i d ts h l =
@@ -54,7 +51,7 @@ module _ {V : Type 0} (S : Scheme V) where
 
   -- a window within the list
   pub print_from : S.k ≤ S.t → (ts : List Token) (s p : ℕ) → s + S.t ≤ length ts → Rightmost S.cmp (row S ts) s (width S) p → Print S ts p
-  print_from fits ts s p inside r = let e = length_codes ts in (s, omega arith, r)
+  print_from fits ts s p inside r = (s, simp length-map (omega arith), r)
 
   -- the first window of a longest run of t or more tokens holds a pair
   pub guaranteed : TotalOrder S.cmp → S.k ≤ S.t → (xs ys : List Token) (i j n : ℕ) → Longest xs ys i j n → S.t ≤ n → Passage S xs ys i j n
