@@ -1,23 +1,26 @@
 -- A rising list with one record more, or without one or those that a test names. Assumes nothing.
-use Rattle.std.proofs.Common.{◌≡◌, ℕ, suc, ◌+◌, ◌-◌, ◌<◌, ◌≤◌, Bool, true, false, cond, not, ◌⊎◌, List, [], ◌∷◌, ◌++◌, length, get_or, take, drop, set, Ok, Err, filter, Result, Ordering, Less, Greater, sym, refl, ap, ◌∙◌, subst, inl, inr, ⊎_elim, add-one, arith, MatchResult}
+use Rattle.std.proofs.Common.{◌≡◌, ◌≢◌, ℕ, suc, ◌+◌, ◌-◌, ◌<◌, ◌≤◌, Bool, false, not, ◌⊎◌, List, [], ◌∷◌, ◌++◌, length, get_or, take, drop, set, Ok, Err, filter, Result, Ordering, Less, Greater, sym, refl, ap, ◌∙◌, subst, inl, inr, ⊎_elim, add-one, arith, MatchResult, IfErr}
 use Rattle.std.specs.List.{insert, remove}
 use Rattle.std.specs.Ordering.{is_lt, ordering_reverse, ordering_index}
 use Rattle.std.specs.List.Sorted.{IsNonDecreasingBy, IsSearchInRange, IsBinarySearchResult}
 use Rattle.std.proofs.lemmas.List.{take-append-drop, length-drop, length-take, length-take-le, length-set, get_or-take, get_or-drop, take_more, take_more_set, drop_more, drop-set-lt}
-use Rattle.std.proofs.lemmas.Bool.{not-true, not_from_false, not_from_true}
+use Rattle.std.proofs.lemmas.Bool.{not-true, not_from_false}
 use Rattle.order.specs.Total.{TotalOrder}
 use Rattle.order.specs.Listed.{In, Rising, ListsExactly}
 use Rattle.order.specs.Compared.{not_itself}
-use Rattle.order.proofs.Bridges.{in_has, rising_push}
+use Rattle.order.proofs.Bridges.{in_at, in_has, rising_push}
 use Rattle.order.proofs.Joins.{append_in, in_left, in_right, rising_append}
 use Rattle.order.proofs.Members.{in_kept, kept_passes, kept_in}
 use Rattle.order.proofs.Rises.{rising_kept}
+use Rattle.ordered.specs.declared.insertion.Insertion.{Insertion}
+use Rattle.ordered.specs.declared.insertion.Insertion.TheVariants.{At, Present, Full}
+use Rattle.ordered.specs.Answers.{AfterInsert, more}
 use Rattle.ordered.specs.Found.{Cut, Seat, Stands}
 use Rattle.ordered.proofs.Places.{steady_index, steady_at, cut_lower, cut_not_less}
 use Rattle.ordered.proofs.Moves.{put_front, put_rest, out_front, out_rest}
 use Rattle.ordered.specs.Edited.{PutIn, Already, Missed, TakenOut, Fewer, Thinned}
 use Rattle.std.specs.Fn.{Called, AlwaysReturns, Mut}
-use Rattle.std.proofs.lemmas.List.Filters.{FiltersInPlace, FiltersInPlace-more_no, FiltersInPlace-more_set}
+use Rattle.std.proofs.lemmas.List.Filters.{FiltersInPlace}
 
 module _ {X : Type 0} where
   -- the two parts of a rising list
@@ -236,3 +239,23 @@ kept_fewer {X} {cmp} {xs} {ys} {n} {left} e h = subst (λ m. Fewer cmp xs ys m l
 -- a call answers by the function, and so do those after it
 pub answers_next : {F X R : Type 0} (g : Mut F X R) {P : X → R → Type 0} (f : F) (a : X) (r : R) (f' : F) → Called g f a r f' → AlwaysReturns g P f → P a r × AlwaysReturns g P f'
 answers_next g f a r f' c h = ((h.at (a ∷ []) r f' c).0, record { at = λ xs. (h.at (a ∷ xs) r f' c).1 })
+
+-- what is to be put in stands nowhere
+pub absent : {X : Type 0} {cmp : X → X → Ordering} (o : TotalOrder cmp) {xs ys : List X} (x : X) → xs ≡ ys → Rising cmp xs → (r : Result ℕ ℕ) → MatchResult r (λ i. Stands xs i x) (λ i. Seat cmp xs i x) → IfErr r (λ _. In x ys → ⊥)
+absent o x e c (Ok i) h = tt
+absent o {xs} x e c (Err i) h = λ m. not_there o xs i x h c (subst (In x) (sym e) m)
+
+-- a record that stands in the list already is one of its records
+pub already_lists : {X : Type 0} {cmp : X → X → Ordering} (xs ys : List X) (n i : ℕ) (x : X) → n ≤ length xs → Rising cmp (take n xs) → Already xs ys n i x → ListsExactly cmp (take n ys) (λ y. In y (x ∷ take n xs))
+already_lists {X} {cmp} xs ys n i x le c h =
+    let w = h.place in
+    let t = length-take-le n xs le in
+    let here : In x (take n xs) = subst (λ z. In z (take n xs)) (get_or-take n xs i x w ∙ h.is x) (in_at (take n xs) i x (omega arith)) in
+    subst (λ l. ListsExactly cmp (take n l) (λ y. In y (x ∷ take n xs))) (sym h.same)
+    record { rises = c; only = λ y m. inr m; every = λ y. ⊎_elim (λ e. subst (λ z. In z (take n xs)) e here) (λ m. m) }
+
+-- no record was put in at a place
+pub none_put : {X : Type 0} {cmp : X → X → Ordering} (xs ys : List X) (n : ℕ) (x : X) (r : Insertion) → ((i : ℕ) → r ≡ At i → ⊥) → n ≤ length xs → Rising cmp (take n xs) → AfterInsert cmp xs ys n x r → (n ≡ n + more r) × (r ≢ Full → ListsExactly cmp (take n ys) (λ y. In y (x ∷ take n xs)))
+none_put xs ys n x (At i) f le c h = absurd (f i refl)
+none_put xs ys n x (Present i) f le c h = (omega arith, λ _. already_lists xs ys n i x le c h)
+none_put xs ys n x Full f le c h = (omega arith, λ k. absurd (k refl))

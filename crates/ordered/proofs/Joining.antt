@@ -1,16 +1,15 @@
 -- Lists that stand side by side become one. Assumes nothing.
-use Rattle.std.proofs.Common.{◌≡◌, ℕ, ◌+◌, ◌-◌, ◌/◌, ◌<◌, ◌≤◌, false, ◌⊎◌, List, [], ◌∷◌, ◌++◌, length, get_or, take, drop, Ordering, Less, sym, refl, ap, ◌∙◌, subst, ap₂, inl, inr, ⊎_elim, arith}
+use Rattle.std.proofs.Common.{◌≡◌, ℕ, ◌+◌, ◌-◌, ◌/◌, ◌<◌, ◌≤◌, ◌⊎◌, List, [], ◌∷◌, ◌++◌, length, get_or, take, drop, Ordering, Less, sym, refl, ap, ◌∙◌, subst, ap₂, inl, inr, ⊎_elim, arith}
 use Rattle.std.proofs.lemmas.List.{append_assoc, append-nil, length-drop, length-take-le, length-append, take_more, take-take, take-append-le, take_at, drop_at, drop-drop, drop-take, drop_more, drop_all, get_or-drop, get_or-take, take-append-drop}
 use Rattle.order.specs.Total.{TotalOrder}
 use Rattle.order.specs.Listed.{In, Rising, ListsExactly}
 use Rattle.order.specs.Compared.{by_answer}
 use Rattle.order.proofs.Joins.{append_in, in_left, in_right, rising_append}
-use Rattle.order.proofs.Bridges.{in_at}
 use Rattle.std.specs.Ordering.{is_lt}
 use Rattle.ordered.specs.Found.{Cut}
 use Rattle.ordered.specs.Edited.{PutIn, Already}
 use Rattle.ordered.specs.Gathered.{moved, turned, InEither, Merged, Parting, Joined, Grown}
-use Rattle.ordered.proofs.Edits.{rising_split, greater_less, below_cut, not_below_cut}
+use Rattle.ordered.proofs.Edits.{already_lists, rising_split, greater_less, below_cut, not_below_cut}
 use Rattle.ordered.proofs.Moves.{moved_front, moved_past}
 
 -- the fact may be said in another way
@@ -45,20 +44,11 @@ module _ {X : Type 0} (xs ys : List X) (n i : ℕ) (x : X) (lt : n < length xs) 
   }
 
   pub grown_same : (cmp : X → X → Ordering) → Already xs ys n i x → Grown cmp xs ys n n
-  grown_same cmp p =
-      let w = p.place in
-      let t = length-take-le n xs (omega arith) in
-      let here : In x (take n xs) = subst (λ z. In z (take n xs)) (get_or-take n xs i x w ∙ p.is x) (in_at (take n xs) i x (omega arith)) in
-      record {
-        fewer = omega arith;
-        rest = ap (drop (n + 1)) p.same;
-        lists = λ c. subst (λ l. ListsExactly cmp (take n l) (λ z. In z (take (n + 1) xs))) (sym p.same)
-            record {
-              rises = c;
-              only = λ z m. in_more z (inr m);
-              every = λ z m. ⊎_elim (λ q. subst (λ w'. In w' (take n xs)) q here) (λ k. k) (more_in z m);
-            };
-      }
+  grown_same cmp p = record {
+    fewer = omega arith;
+    rest = ap (drop (n + 1)) p.same;
+    lists = λ c. exactly_as (take n ys) (λ z. In z (x ∷ take n xs)) (λ z. In z (take (n + 1) xs)) in_more more_in (already_lists xs ys n i x (omega arith) c p);
+  }
 
 module _ {X : Type 0} {cmp : X → X → Ordering} (o : TotalOrder cmp) where
   over_not_less : (z v y : X) → cmp z v ≡ Less → (cmp y v ≡ Less → ⊥) → cmp z y ≡ Less

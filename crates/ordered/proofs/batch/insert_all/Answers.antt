@@ -1,4 +1,4 @@
-use Rattle.std.proofs.Common.{◌+◌, ◌-◌, length, take, drop, refl, arith}
+use Rattle.std.proofs.Common.{◌+◌, take, drop, refl, arith}
 use Rattle.ordered.proofs.Sorting.{all_in}
 use Rattle.ordered.proofs.batch.insert_all.Goals as goal
 

@@ -6,8 +6,7 @@ use Rattle.ordered.proofs.edit.remove_all.Goals as goal
 
 pub loop-i-preserved-then-test : goal.loop-i-preserved-then-test
 loop-i-preserved-then-test g c =
-    let h = c.loop-i.invariant in
-    (
+    let h = c.loop-i.invariant in (
       search of_calls,
       keeping_out h.1 (omega arith) c.index-list-i.is,
       λ named by.
@@ -18,8 +17,7 @@ loop-i-preserved-then-test g c =
 
 pub loop-i-preserved : goal.loop-i-preserved
 loop-i-preserved g c =
-    let h = c.loop-i.invariant in
-    (
+    let h = c.loop-i.invariant in (
       search of_calls,
       keeping_in h.1 (omega arith) c.index-list-i.is,
       λ named by.

@@ -8,8 +8,7 @@ loop-low-init g c = (search of_calls, omega arith, omega arith, λ before by. (b
 
 pub loop-low-preserved-then-test : goal.loop-low-preserved-then-test
 loop-low-preserved-then-test g c =
-    let mid = c.loop-low.low + (c.loop-low.high - c.loop-low.low) / 2 in
-    (
+    let mid = c.loop-low.low + (c.loop-low.high - c.loop-low.low) / 2 in (
       search of_calls,
       omega arith,
       omega arith,
@@ -21,8 +20,7 @@ loop-low-preserved-then-test g c =
 
 pub loop-low-preserved : goal.loop-low-preserved
 loop-low-preserved g c =
-    let mid = c.loop-low.low + (c.loop-low.high - c.loop-low.low) / 2 in
-    (
+    let mid = c.loop-low.low + (c.loop-low.high - c.loop-low.low) / 2 in (
       search of_calls,
       omega arith,
       omega arith,

@@ -1,4 +1,4 @@
-use Rattle.std.proofs.Common.{◌≡◌, ◌-◌, ◌<◌, ◌≤◌, Bool, true, false, length, get_or}
+use Rattle.std.proofs.Common.{◌-◌, ◌≤◌, Bool, length}
 use Rattle.std.specs.Fn.{ComputesKey}
 use Rattle.ordered.proofs.Places.{Around}
 use Rattle.ordered.proofs.search.cut.Given as goal
