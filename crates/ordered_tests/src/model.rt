@@ -1,15 +1,15 @@
 // The lists held against a plain model: which of the small numbers are in the list.
-ghost use Rattle.std.specs.Prelude.{◌≡◌, ◌%◌, ◌<◌, ◌==◌};
+ghost use Rattle.std.specs.Prelude.{◌<◌};
 
 #[cfg(test)]
 mod tests {
-    use crate::entry::{Entry, OfValue};
+    use crate::entry::Entry;
+    use crate::index::Index;
     use ordered::batch::insert_all;
-    use ordered::edit::{Predicate, insert, remove, remove_all};
+    use ordered::edit::remove_all;
     use ordered::insertion::Insertion;
-    use ordered::search::range;
+    use ordered::list::OrderedList;
     use std::process::Abort;
-    use std::test::Fail;
 
     // A linear congruential generator; its high bits are the number.
     #[derive(Drop)]
@@ -29,70 +29,37 @@ mod tests {
         }
     }
 
-    // Whether the first n entries are the numbers of the model, from the smallest on.
-    fn same(list: &[u32], n: usize, there: &[bool]) -> bool {
-        let mut k = 0usize;
-        for (v, held) in there.iter().enumerate() {
-            if *held {
-                if k >= n || k >= list.len() || list[k] as usize != v {
-                    return false;
-                }
-                k += 1;
-            }
-        }
-        k == n
+    // Whether the records are the numbers of the model, from the smallest on.
+    fn same(list: &[u32], there: &[bool]) -> bool {
+        let held = there.iter().enumerate().filter(|(_, held)| **held);
+        list.iter().map(|x| *x as usize).eq(held.map(|(v, _)| v))
     }
 
-    // x put in; the answer is the new count.
-    fn put_in(
-        rt: &impl Abort,
-        list: &mut [u32],
-        n: usize,
-        there: &mut [bool],
-        x: u32,
-    ) -> Result<usize, Fail> {
+    fn put_in(rt: &impl Abort, list: &mut OrderedList<'_, u32>, there: &mut [bool], x: u32) {
         let place = x as usize;
-        assert!(rt; n <= list.len() && place < there.len());
+        assert!(rt; place < there.len());
         let held = there[place];
-        match insert(list, n, x) {
+        match list.insert(x) {
             Insertion::At(_) => {
                 assert!(rt; !held);
                 there[place] = true;
-                Ok(n.saturating_add(1))
             }
             Insertion::Present(i) => {
-                assert!(rt; held && i < list.len() && list[i] == x);
-                Ok(n)
+                let records = list.as_slice();
+                assert!(rt; held && i < records.len() && records[i] == x);
             }
             Insertion::Full => {
-                assert!(rt; !held && n == list.len());
-                Ok(n)
+                assert!(rt; !held && list.len() == list.entries.len());
             }
         }
     }
 
-    // x taken out; the answer is the new count.
-    fn take_out(
-        rt: &impl Abort,
-        list: &mut [u32],
-        n: usize,
-        there: &mut [bool],
-        x: u32,
-    ) -> Result<usize, Fail> {
+    fn take_out(rt: &impl Abort, list: &mut OrderedList<'_, u32>, there: &mut [bool], x: u32) {
         let place = x as usize;
-        assert!(rt; n <= list.len() && place < there.len());
+        assert!(rt; place < there.len());
         let held = there[place];
         there[place] = false;
-        match remove(list, n, x) {
-            Some(_) => {
-                assert!(rt; held);
-                Ok(n.saturating_sub(1))
-            }
-            None => {
-                assert!(rt; !held);
-                Ok(n)
-            }
-        }
+        assert!(rt; list.remove(x).is_some() == held);
     }
 
     // m numbers written behind the list and put in at once; the answer is the new count.
@@ -105,28 +72,17 @@ mod tests {
         numbers: &mut Numbers,
     ) -> usize {
         assert!(rt; n <= list.len() && m <= list.len() - n);
-        for k in n..n + m {
+        for entry in list[n..n + m].iter_mut() {
             let x = numbers.below(256);
             let place = x as usize;
             assert!(rt; place < there.len());
             there[place] = true;
-            list[k] = x;
+            *entry = x;
         }
         insert_all(list, n, m)
     }
 
-    #[derive(Clone, Copy)]
-    struct OfRest(u32);
-
-    // Numbers that leave the rest when divided by 5.
-    impl Predicate<u32> for OfRest {
-        ghost holds = { λ p x. (x % 5 == p.0) };
-
-        fn test(&self, x: &u32) -> bool {
-            *x % 5 == self.0
-        }
-    }
-
+    // Takes out the numbers that leave the rest when divided by 5.
     fn take_out_rest(
         rt: &impl Abort,
         list: &mut [u32],
@@ -135,30 +91,30 @@ mod tests {
         rest: u32,
     ) -> usize {
         assert!(rt; n <= list.len());
-        for v in 0..there.len() {
+        for (v, held) in there.iter_mut().enumerate() {
             if v % 5 == rest as usize {
-                there[v] = false;
+                *held = false;
             }
         }
-        remove_all(list, n, &OfRest(rest))
+        remove_all(list, n, |x| *x % 5 == rest)
     }
 
-    fn one_by_one_in(rt: &impl Abort, list: &mut [u32], there: &mut [bool]) -> Result<(), Fail> {
+    fn one_by_one_in(rt: &impl Abort, entries: &mut [u32], there: &mut [bool]) {
         let mut numbers = Numbers(7);
-        let mut n = 0usize;
+        let mut list = OrderedList::new(entries);
         for _ in 0..3000 {
             let x = numbers.below(128);
-            n = if numbers.below(5) < 3 {
-                put_in(rt, list, n, there, x)?
+            if numbers.below(5) < 3 {
+                put_in(rt, &mut list, there, x);
             } else {
-                take_out(rt, list, n, there, x)?
-            };
-            assert!(rt; same(list, n, there));
+                take_out(rt, &mut list, there, x);
+            }
+            assert!(rt; same(list.as_slice(), there));
         }
-        Ok(())
     }
 
-    // Batches with enough free room, with some, and with none; now and then a fifth of the numbers is taken out.
+    // Batches with enough free room, with some, and with none; now and then a fifth of the numbers is taken out. The part that is lent
+    // changes from batch to batch, so these are the functions below `OrderedList`.
     fn in_batches_in(rt: &impl Abort, list: &mut [u32], there: &mut [bool]) {
         let mut numbers = Numbers(11);
         let mut n = 0usize;
@@ -167,49 +123,44 @@ mod tests {
             let room = numbers.below(100) as usize;
             let end = n.saturating_add(m).saturating_add(room).min(list.len());
             assert!(rt; n <= end && end <= list.len());
-            let part = &mut list[0..end];
-            n = put_in_batch(rt, part, n, m.min(end - n), there, &mut numbers);
-            assert!(rt; same(list, n, there));
+            n = put_in_batch(rt, &mut list[..end], n, m.min(end - n), there, &mut numbers);
+            assert!(rt; n <= list.len() && same(&list[..n], there));
             n = take_out_rest(rt, list, n, there, numbers.below(5));
-            assert!(rt; same(list, n, there));
+            assert!(rt; n <= list.len() && same(&list[..n], there));
         }
     }
 
-    // Whether the span holds exactly the entries of the value.
-    fn exact(list: &[Entry<u32>], value: u32) -> bool {
-        let span = range(list, &OfValue(value));
-        for (k, x) in list.iter().enumerate() {
-            if (x.value == value) != (span.from <= k && k < span.to) {
-                return false;
-            }
-        }
-        true
+    // Whether the range holds exactly the entries of the value.
+    fn exact(index: &Index<'_, Entry<u32>>, value: u32) -> bool {
+        let places = index.of_value(value);
+        let records = index.list.as_slice();
+        records
+            .iter()
+            .enumerate()
+            .all(|(k, x)| (x.value == value) == places.contains(&k))
     }
 
-    fn spans_in(rt: &impl Abort, list: &mut [Entry<u32>]) {
+    fn spans_in(rt: &impl Abort, entries: &mut [Entry<u32>]) {
         let mut numbers = Numbers(13);
-        let mut n = 0usize;
+        let mut index = Index {
+            list: OrderedList::new(entries),
+        };
         for _ in 0..300 {
-            let x = Entry {
+            index.add(Entry {
                 value: numbers.below(14),
                 file: 1,
                 place: numbers.below(9),
-            };
-            assert!(rt; n <= list.len());
-            if let Insertion::At(_) = insert(list, n, x) {
-                n = n.saturating_add(1);
-            }
-            assert!(rt; n <= list.len());
+            });
             for value in 0..15 {
-                assert!(rt; exact(&list[0..n], value));
+                assert!(rt; exact(&index, value));
             }
         }
-        assert!(rt; n == list.len());
+        assert!(rt; index.list.len() == index.list.entries.len());
     }
 
     #[test]
-    fn one_by_one(rt: HostRuntime) -> Result<(), Fail> {
-        one_by_one_in(&rt, &mut [0; 48], &mut [false; 128])
+    fn one_by_one(rt: HostRuntime) {
+        one_by_one_in(&rt, &mut [0; 48], &mut [false; 128]);
     }
 
     #[test]
