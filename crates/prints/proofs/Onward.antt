@@ -1,135 +1,128 @@
 -- A walk goes on until a window chooses a place that was not handed out. Assumes nothing.
-use Rattle.std.proofs.Common.{◌≡◌, ℕ, ◌+◌, ◌-◌, ◌^◌, ◌<◌, ◌≤◌, leb, List, [], ◌∷◌, map, length, Some, None, filter, Option, Ordering, sym, refl, ap, ◌∙◌, subst, ap₂, ⊎_elim, arith}
+use Rattle.std.proofs.Common.{◌≡◌, ℕ, ◌+◌, ◌-◌, ◌^◌, ◌<◌, ◌≤◌, List, [], ◌∷◌, map, Some, None, Option, Ordering, sym, ap, ◌∙◌, subst, ap₂, ⊎_elim, arith}
 use Rattle.std.proofs.lemmas.Bool.{cases_lt}
 use Rattle.order.specs.Total.{TotalOrder}
 use Rattle.prints.specs.declared.window.Placed.{Placed}
-use Rattle.prints.specs.declared.walk.Winnow.{Winnow}
-use Rattle.prints.specs.Grams.{Coded}
-use Rattle.prints.specs.Choice.{Rightmost, chosen, at_place}
-use Rattle.prints.specs.Window.{Holds}
-use Rattle.prints.specs.Walk.{grams, value_at, first, rest, walked, row_of, remaining, Going, Walking, Advanced, Handed}
+use Rattle.prints.specs.declared.window.WindowQueue.{WindowQueue}
+use Rattle.prints.specs.declared.walk.Grams.{Grams}
+use Rattle.prints.specs.Choice.{Rightmost, at_place}
+use Rattle.prints.specs.Best.{Best}
+use Rattle.prints.specs.Window.{width, Holds, Pushed}
+use Rattle.prints.specs.Walk.{grams, value_at, codes_of, row_of, winnowed_from, Gave, Walking}
 use Rattle.prints.proofs.Picks.{rightmost_one}
 use Rattle.prints.proofs.Walks.{next_chosen, none_chosen}
 
-module _ {C V : Type 0} (hash : List ℕ → V) (cmp : V → V → Ordering) (read : C → List ℕ) where
-  -- the chosen places from f on, by the parts of the state that they depend on
-  abbrev pub from_on : ℕ → ℕ → C → ℕ → List (Placed V)
-  from_on f k c w = map (at_place (value_at hash k (read c))) (filter (leb f) (chosen cmp w (value_at hash k (read c)) (grams k (read c))))
-
 module _ {H C V : Type 0} (hash : List ℕ → V) (cmp : V → V → Ordering) (read : C → List ℕ) where
-  -- the walk went from x to y and handed out nothing
-  pub record Onward (x y : Winnow H C V) : Type 0 where
-    pub walking : Walking hash cmp read y
-    pub codes : y.codes ≡ x.codes
-    pub same : remaining hash cmp read y ≡ remaining hash cmp read x
+  -- what a walk in this state has yet to hand out
+  abbrev pub left : Grams H C V → WindowQueue V → ℕ → List (Placed V)
+  left x q from = winnowed_from hash cmp x.k (width q) (read x.codes) from
 
-  -- the same walk, with the least place that may still be handed out
-  abbrev pub with_from : Winnow H C V → ℕ → Winnow H C V
-  with_from z f = record { codes = z.codes; k = z.k; value = z.value; next = z.next; left = z.left; from = f; queue = z.queue }
+-- the walk has handed out all but the list that is left
+pub record Leaves {H C V : Type 0} (hash : List ℕ → V) (cmp : V → V → Ordering) (read : C → List ℕ) (x : Grams H C V) (q : WindowQueue V) (from : ℕ) (list : List (Placed V)) : Type 0 where
+  pub walking : Walking hash cmp read x q from
+  pub left : list ≡ left hash cmp read x q from
 
-module _ {H C V : Type 0} {hash : List ℕ → V} {cmp : V → V → Ordering} {read : C → List ℕ} where
-  pub onward_starts : (x : Winnow H C V) → Walking hash cmp read x → Onward hash cmp read x x
-  onward_starts x h = record { walking = h; codes = refl; same = refl }
+module _ {H C V : Type 0} {hash : List ℕ → V} {cmp : V → V → Ordering} {read : C → List ℕ} {x y : Grams H C V} {q : WindowQueue V} {from : ℕ} {list : List (Placed V)} (h : Leaves hash cmp read x q from list) where
+  module _ {z : WindowQueue V} {m : Placed V} {r : Option (Placed V)} (a : Gave hash read x (Some m) y) (wide : width z ≡ width q) (takes : (at : ℕ → V) (n : ℕ) → Holds cmp at n q → m ≡ at_place at n → Pushed cmp at n z r) where
+    pushed : Pushed cmp (row_of hash read x) x.place z r
+    pushed = takes (row_of hash read x) x.place h.walking.queue a.gave.1
 
-  module _ (y z : Winnow H C V) (r : Option (Placed V)) (h : Walking hash cmp read y) (a : Advanced hash cmp read y z r) where
-    rows : row_of hash cmp read z ≡ row_of hash cmp read y
+    rows : row_of hash read y ≡ row_of hash read x
     rows = ap₂ (λ k c. value_at hash k (read c)) a.k a.codes
 
-    pub from_on_same : (f : ℕ) → from_on hash cmp read f z.k z.codes z.queue.width ≡ from_on hash cmp read f y.k y.codes y.queue.width
-    from_on_same f = ap₂ (λ k c. from_on hash cmp read f k c z.queue.width) a.k a.codes ∙ ap (from_on hash cmp read f y.k y.codes) a.width
-
-    pub going_on : (f : ℕ) → Going hash cmp read (with_from hash cmp read z f)
-    going_on f =
-        let g = h.going in
-        let k = a.k in
-        let low = g.low in
-        let high = g.high in
-        let next = a.next in
-        let left = a.left in
-        let count = g.count in
-        let many : grams z.k (walked hash cmp read z) ≡ grams y.k (walked hash cmp read y) = ap₂ (λ k c. grams k (read c)) a.k a.codes in
-        record {
-          low = omega arith;
-          high = omega arith;
-          coded = subst (λ c. Coded (read c)) (sym a.codes) g.coded;
-          size = subst (λ c. length (read c) < 2 ^ 64) (sym a.codes) g.size;
-          count = let e : z.next + z.left ≡ y.next + y.left = omega arith in e ∙ count ∙ sym many;
-          held = λ more. a.held more ∙ ap (λ f. f z.next) (sym rows);
-          queue = subst (λ f. Holds cmp f z.next z.queue) (sym rows) (subst (λ n. Holds cmp (row_of hash cmp read y) n z.queue) (sym next) a.pushed.holds);
-        }
+    left_same : (f : ℕ) → left hash cmp read x q f ≡ left hash cmp read y z f
+    left_same f = sym (ap₂ (λ k c. winnowed_from hash cmp k (width z) (read c) f) a.k a.codes ∙ ap (λ w. winnowed_from hash cmp x.k w (read x.codes) f) wide)
 
     -- the windows so far chose below a bound, if the new one does
-    pub gone_on : (bound : ℕ) → y.from ≤ bound → ((p : ℕ) → y.queue.width ≤ y.next + 1 → Rightmost cmp (row_of hash cmp read y) (y.next + 1 - y.queue.width) y.queue.width p → p < bound) → (s p : ℕ) → s + z.queue.width ≤ z.next → Rightmost cmp (row_of hash cmp read z) s z.queue.width p → p < bound
-    gone_on bound le new s p fits r =
-        let next = a.next in
-        let wide = a.width in
-        let here : Rightmost cmp (row_of hash cmp read y) s y.queue.width p = subst (λ f. Rightmost cmp f s y.queue.width p) rows (subst (λ w. Rightmost cmp (row_of hash cmp read z) s w p) wide r) in
-        ⊎_elim
-        (λ lt. let old = h.gone s p (omega arith) here in omega arith)
-        (λ ge.
-        let e : s ≡ y.next + 1 - y.queue.width = omega arith in
-        new p (omega arith) (subst (λ t. Rightmost cmp (row_of hash cmp read y) t y.queue.width p) e here))
-        (cases_lt (s + y.queue.width) (y.next + 1))
+    walks_on : (bound : ℕ) → from ≤ bound → ((p : ℕ) → width q ≤ x.place + 1 → Rightmost cmp (row_of hash read x) (x.place + 1 - width q) (width q) p → p < bound) → Walking hash cmp read y z bound
+    walks_on bound le new = record {
+      going = a.going;
+      queue = subst (λ f. Holds cmp f y.place z) (sym rows) (subst (λ n. Holds cmp (row_of hash read x) n z) (sym a.gave.2) pushed.holds);
+      gone = λ s p fits r.
+          let next = a.gave.2 in
+          let here : Rightmost cmp (row_of hash read x) s (width q) p = subst (λ f. Rightmost cmp f s (width q) p) rows (subst (λ w. Rightmost cmp (row_of hash read y) s w p) wide r) in
+          ⊎_elim
+          (λ lt. let old = h.walking.gone s p (omega arith) here in omega arith)
+          (λ ge.
+          let e : s ≡ x.place + 1 - width q = omega arith in
+          new p (omega arith) (subst (λ t. Rightmost cmp (row_of hash read x) t (width q) p) e here))
+          (cases_lt (s + width q) (x.place + 1));
+    }
 
-  -- nothing new was chosen
-  pub onward_more : (x y z : Winnow H C V) (r : Option (Placed V)) → Onward hash cmp read x y → (a : Advanced hash cmp read y z r) → ((p : ℕ) → y.queue.width ≤ y.next + 1 → Rightmost cmp (row_of hash cmp read y) (y.next + 1 - y.queue.width) y.queue.width p → p < y.from) → Onward hash cmp read x z
-  unfolding remaining
-  onward_more x y z r h a new =
-      let from = a.from in
-      record {
-        walking = record {
-          going = going_on y z r h.walking a z.from;
-          gone = λ s p fits q. let lt = gone_on y z r h.walking a y.from (omega arith) new s p fits q in omega arith;
-        };
-        codes = a.codes ∙ h.codes;
-        same = ap (λ f. from_on hash cmp read f z.k z.codes z.queue.width) from ∙ from_on_same y z r h.walking a y.from ∙ h.same;
-      }
+  -- no window ends here
+  pub onward_early : {z : WindowQueue V} {m : Placed V} → Gave hash read x (Some m) y → width z ≡ width q → ((at : ℕ → V) (n : ℕ) → Holds cmp at n q → m ≡ at_place at n → Pushed cmp at n z None) → Leaves hash cmp read y z from list
+  onward_early a wide takes = record {
+    walking = walks_on a wide takes from (omega arith) (λ p le r. let lt = (pushed a wide takes).answer in absurd (omega arith));
+    left = h.left ∙ left_same a wide takes from;
+  }
 
-  module _ (o : TotalOrder cmp) where
-    -- no window ends here
-    pub onward_early : (x y z : Winnow H C V) → Onward hash cmp read x y → Advanced hash cmp read y z None → Onward hash cmp read x z
-    onward_early x y z h a = onward_more x y z None h a (λ p le r. let lt = a.pushed.answer in absurd (omega arith))
+  module _ (o : TotalOrder cmp) {z : WindowQueue V} {m best : Placed V} (a : Gave hash read x (Some m) y) (wide : width z ≡ width q) (takes : (at : ℕ → V) (n : ℕ) → Holds cmp at n q → m ≡ at_place at n → Pushed cmp at n z (Some best)) where
+    found : Best cmp (row_of hash read x) (x.place + 1 - width q) (width q) best
+    found = subst (λ w. Best cmp (row_of hash read x) (x.place + 1 - w) w best) wide (pushed a wide takes).answer.1
+
+    -- the window lies within the grams
+    pub window_inside : (width q ≤ x.place + 1) × (x.place < grams x.k (codes_of hash read x))
+    window_inside = let full = (pushed a wide takes).answer.0 in (omega arith, a.gave.0)
+
+    -- so the place that it chooses has one behind it
+    pub place_inside : best.place + 1 < 2 ^ 64
+    place_inside =
+        let low = h.walking.going.low in
+        let size = h.walking.going.size in
+        let inside = window_inside in
+        let full = inside.0 in
+        let some = inside.1 in
+        let below = found.place.below in
+        omega arith
+
+    bounded : (bound : ℕ) → best.place < bound → (p : ℕ) → width q ≤ x.place + 1 → Rightmost cmp (row_of hash read x) (x.place + 1 - width q) (width q) p → p < bound
+    bounded bound lt p _ r = let e = rightmost_one o (row_of hash read x) (x.place + 1 - width q) (width q) p best.place r found.place in omega arith
 
     -- the window chooses a place that was handed out
-    pub onward_again : (x y z : Winnow H C V) (best : Placed V) → Onward hash cmp read x y → Advanced hash cmp read y z (Some best) → best.place < y.from → Onward hash cmp read x z
-    onward_again x y z best h a lt =
-        onward_more x y z (Some best) h a
-        (λ p le r. let e = rightmost_one o (row_of hash cmp read y) (y.next + 1 - y.queue.width) y.queue.width p best.place r a.pushed.answer.1.place in omega arith)
+    pub onward_again : best.place < from → Leaves hash cmp read y z from list
+    onward_again lt = record {
+      walking = walks_on a wide takes from (omega arith) (bounded from lt);
+      left = h.left ∙ left_same a wide takes from;
+    }
 
-    -- the window chooses a new place
-    pub onward_found : (x y z : Winnow H C V) (best : Placed V) → Onward hash cmp read x y → Advanced hash cmp read y z (Some best) → y.from ≤ best.place → Handed hash cmp read x (with_from hash cmp read z (best.place + 1)) (Some best)
-    unfolding remaining
-    onward_found x y z best h a le =
-        let w = y.queue.width in
-        let row = row_of hash cmp read y in
-        let found = a.pushed.answer.1 in
-        let full = a.pushed.answer.0 in
-        let block = h.walking.going.queue.1 in
-        let in' = block.ready.inside in
-        let count = h.walking.going.count in
-        let left = a.left in
-        let s = y.next + 1 - w in
-        let value : Some best ≡ Some (at_place row best.place) = λ i. Some (record { place = best.place; value = found.value i }) in
-        let split = next_chosen o row w (grams y.k (walked hash cmp read y)) y.from (omega arith) s best.place (omega arith) (λ t q lt r. h.walking.gone t q (omega arith) r) found.place le in
-        let listed : remaining hash cmp read x ≡ at_place row best.place ∷ from_on hash cmp read (best.place + 1) y.k y.codes w = sym h.same ∙ ap (map (at_place row)) split in
+    module _ (le : from ≤ best.place) where
+      -- the window chooses a new place
+      pub onward_found : Walking hash cmp read y z (best.place + 1)
+      onward_found = walks_on a wide takes (best.place + 1) (omega arith) (bounded (best.place + 1) (omega arith))
+
+      -- which is the first that is left
+      pub first_left : list ≡ best ∷ left hash cmp read y z (best.place + 1)
+      unfolding winnowed_from
+      first_left =
+          let w = width q in
+          let row = row_of hash read x in
+          let inside = window_inside in
+          let full = inside.0 in
+          let some = inside.1 in
+          let room = q.room in
+          let value : at_place row best.place ≡ best = λ i. record { place = best.place; value = sym found.value i } in
+          let split = next_chosen o row w (grams x.k (codes_of hash read x)) from (omega arith) (x.place + 1 - w) best.place (omega arith) (λ t p lt r. h.walking.gone t p (omega arith) r) found.place le in
+          h.left ∙ ap (map (at_place row)) split ∙ ap₂ ◌∷◌ value (left_same a wide takes (best.place + 1))
+
+  -- there are no more values
+  module _ (o : TotalOrder cmp) (a : Gave hash read x None y) where
+    pub onward_ends : Walking hash cmp read y q from
+    onward_ends =
+        let rows : row_of hash read x ≡ row_of hash read y = sym (ap₂ (λ k c. value_at hash k (read c)) a.k a.codes) in
+        let place = a.gave.1 in
         record {
-          walking = record {
-            going = going_on y z (Some best) h.walking a (best.place + 1);
-            gone = gone_on y z (Some best) h.walking a (best.place + 1) (omega arith) (λ p _ r. let e = rightmost_one o row s w p best.place r found.place in omega arith);
-          };
-          codes = a.codes ∙ h.codes;
-          answer = value ∙ sym (ap first listed);
-          leaves = from_on_same y z (Some best) h.walking a (best.place + 1) ∙ sym (ap rest listed);
+          going = a.going;
+          queue = subst (λ f. Holds cmp f y.place q) rows (subst (λ n. Holds cmp (row_of hash read x) n q) (sym place) h.walking.queue);
+          gone = λ s p fits r. h.walking.gone s p (omega arith) (subst (λ f. Rightmost cmp f s (width q) p) (sym rows) r);
         }
 
-    -- there are no more values
-    pub onward_ends : (x y : Winnow H C V) → Onward hash cmp read x y → y.left ≤ 0 → Handed hash cmp read x y None
-    unfolding remaining
-    onward_ends x y h none =
-        let row = row_of hash cmp read y in
-        let block = h.walking.going.queue.1 in
-        let in' = block.ready.inside in
-        let count = h.walking.going.count in
-        let empty : remaining hash cmp read y ≡ [] = ap (map (at_place row)) (none_chosen o row y.queue.width (grams y.k (walked hash cmp read y)) y.from (omega arith) (λ t q fits r. h.walking.gone t q (omega arith) r)) in
-        let listed : remaining hash cmp read x ≡ [] = sym h.same ∙ empty in
-        record { walking = h.walking; codes = h.codes; answer = sym (ap first listed); leaves = empty ∙ sym (ap rest listed) }
+    pub none_left : list ≡ []
+    unfolding winnowed_from
+    none_left =
+        let row = row_of hash read x in
+        let none = a.gave.0 in
+        let room = q.room in
+        h.left ∙ ap (map (at_place row)) (none_chosen o row (width q) (grams x.k (codes_of hash read x)) from (omega arith) (λ t p fits r. h.walking.gone t p (omega arith) r))
+
+    pub ends_empty : left hash cmp read y q from ≡ []
+    ends_empty = ap₂ (λ k c. winnowed_from hash cmp k (width q) (read c) from) a.k a.codes ∙ sym h.left ∙ none_left

@@ -1,5 +1,5 @@
 -- Grams that move on, and what a walk has yet to hand out. Assumes nothing.
-use Rattle.std.proofs.Common.{◌≡◌, ℕ, suc, ◌+◌, ◌-◌, ◌<◌, ◌≤◌, leb, List, [], ◌∷◌, ◌++◌, length, get_or, take, drop, set, filter, Ordering, sym, refl, ap, ◌∙◌, subst, ap₂, inl, inr, ⊎_elim, arith}
+use Rattle.std.proofs.Common.{◌≡◌, ℕ, suc, ◌+◌, ◌-◌, ◌<◌, ◌≤◌, leb, List, [], ◌∷◌, ◌++◌, length, get_or, take, drop, set, filter, Option, Some, None, MatchOption, Ordering, sym, refl, ap, ◌∙◌, subst, ap₂, inl, inr, ⊎_elim, arith}
 use Rattle.std.proofs.ByRecursion.{All-get_or, All-take, All-drop}
 use Rattle.std.proofs.lemmas.List.{ext_get_or, get_or-take, get_or-drop, length-take, length-drop, drop_more, take_more, get_or-set_same, get_or-set_other}
 use Rattle.std.proofs.lemmas.Bool.{cases_eq, cases_lt, le-leb, lt-leb, cond-true, cond-false}
@@ -10,7 +10,7 @@ use Rattle.order.proofs.Rises.{rank_lt}
 use Rattle.prints.specs.Choice.{Rightmost, chosen}
 use Rattle.prints.proofs.Picks.{chosen_rises, in_chosen, chosen_in, rightmost_rises}
 use Rattle.prints.specs.Grams.{Code, Coded, Gram, Rolls}
-use Rattle.prints.specs.Walk.{gram, value_at}
+use Rattle.prints.specs.Walk.{gram, grams, value_at}
 use Rattle.std.specs.Ordering.{nat_cmp}
 
 -- ---- grams
@@ -55,6 +55,15 @@ module _ (cs : List ℕ) (k i : ℕ) (low : 1 ≤ k) where
       let front : gram k cs i ≡ get_or cs i 0 ∷ mid = gram_front (omega arith) in
       let size : k ≡ length (get_or cs i 0 ∷ mid) = sym (length_gram (omega arith)) ∙ ap length front in
       law mid (subst Gram front (is_gram high coded (omega arith))) (All-get_or Code cs (i + k) 0 fits coded) size (is ∙ ap hash front) ∙ sym (ap hash (gram_next fits))
+
+  -- so it goes on while there is a gram
+  pub held_on : {V : Type 0} (hash : List ℕ → V) (before : V) (r : Option V) → k ≤ 64 → Coded cs → i < grams k cs → before ≡ value_at hash k cs i
+      → MatchOption r (length cs ≤ i + k) (λ v. (i + k < length cs) × Rolls hash before k (get_or cs i 0) (get_or cs (i + k) 0) v)
+      → MatchOption r (grams k cs ≤ i + 1) (λ v. (i + 1 < grams k cs) × (v ≡ value_at hash k cs (i + 1)))
+  held_on hash before None high coded fits is none = omega arith
+  held_on hash before (Some v) high coded fits is some =
+      let more = some.0 in
+      (omega arith, rolls_on hash before v high coded more is some.1)
 
 -- ---- the part of a rising list from a number on
 

@@ -1,64 +1,33 @@
--- What a file's fingerprints are, and what a walk hands out, for those who call it. Assumes nothing.
-use Rattle.std.proofs.Common.{◌≡◌, ℕ, ◌+◌, ◌^◌, ◌<◌, ◌≤◌, leb, List, [], ◌∷◌, ◌++◌, map, length, Some, None, filter, Ordering, sym, refl, ap, ◌∙◌, subst, inl, arith}
+-- What a file's fingerprints are, for those who call. Assumes nothing.
+use Rattle.std.proofs.Common.{◌≡◌, ℕ, ◌+◌, ◌<◌, ◌≤◌, List, [], ◌∷◌, map, length, Ordering, sym, refl, ap, ◌∙◌, subst, inl, arith}
 use Rattle.std.specs.List.{range_with_len}
 use Rattle.std.proofs.lemmas.List.FromFn.{length-range_with_len}
-use Rattle.std.proofs.lemmas.List.{append_assoc, length-map}
+use Rattle.std.proofs.lemmas.List.{length-map}
 use Rattle.order.specs.Total.{TotalOrder}
 use Rattle.order.specs.Listed.{In, ListsExactly}
 use Rattle.order.proofs.Members.{kept_few, in_map, map_in}
 use Rattle.prints.specs.declared.window.Placed.{Placed}
-use Rattle.prints.specs.declared.walk.Winnow.{Winnow}
 use Rattle.prints.specs.Choice.{Chosen, NoWindow, is_picked, chosen, at_place}
-use Rattle.prints.specs.Walk.{grams, value_at, winnowed, first, rest, walked, row_of, remaining, Walking, Handed}
+use Rattle.prints.specs.Walk.{grams, value_at, winnowed, winnowed_from}
+use Rattle.prints.proofs.Walks.{kept_whole}
 use Rattle.prints.proofs.Picks.{agrees, chosen_in, in_chosen}
 use Rattle.std.specs.Ordering.{nat_cmp}
 
--- ---- steps of a walk
+-- there are no more chosen places than codes
+pub winnowed_few : {V : Type 0} (hash : List ℕ → V) (cmp : V → V → Ordering) (k w : ℕ) (cs : List ℕ) → 1 ≤ k → length (winnowed hash cmp k w cs) ≤ length cs
+unfolding winnowed
+winnowed_few hash cmp k w cs low =
+    let at = value_at hash k cs in
+    let n = grams k cs in
+    let a = length-map (chosen cmp w at n) (at_place at) in
+    let b = kept_few (is_picked cmp w at n) (range_with_len 0 n) in
+    let c = length-range_with_len 0 n in
+    omega arith
 
-some_first : {X : Type 0} (x : X) (xs : List X) → Some x ≡ first xs → xs ≡ x ∷ rest xs
-some_first x [] e = let z : ◌≡◌ {A = ℕ} 0 1 = cc in absurd (omega arith)
-some_first x (y ∷ ys) e = let same : x ≡ y = cc in ap (λ z. z ∷ ys) (sym same)
-
-none_first : {X : Type 0} (xs : List X) → None ≡ first xs → xs ≡ []
-none_first [] e = refl
-none_first (y ∷ ys) e = let z : ◌≡◌ {A = ℕ} 0 1 = cc in absurd (omega arith)
-
-module _ {H C V : Type 0} {hash : List ℕ → V} {cmp : V → V → Ordering} {read : C → List ℕ} where
-  -- it handed out m
-  pub handed_some : (x y : Winnow H C V) (m : Placed V) → Handed hash cmp read x y (Some m) → remaining hash cmp read x ≡ m ∷ remaining hash cmp read y
-  handed_some x y m h = some_first m (remaining hash cmp read x) h.answer ∙ ap (λ l. m ∷ l) (sym h.leaves)
-
-  -- it had nothing left
-  pub handed_none : (x y : Winnow H C V) → Handed hash cmp read x y None → remaining hash cmp read x ≡ []
-  handed_none x y h = none_first (remaining hash cmp read x) h.answer
-
-  -- and has nothing left
-  pub handed_end : (x y : Winnow H C V) → Handed hash cmp read x y None → remaining hash cmp read y ≡ []
-  handed_end x y h = h.leaves ∙ ap rest (handed_none x y h)
-
-  -- one fewer is left
-  pub handed_fewer : (x y : Winnow H C V) (m : Placed V) → Handed hash cmp read x y (Some m) → length (remaining hash cmp read x) ≡ length (remaining hash cmp read y) + 1
-  handed_fewer x y m h = ap length (handed_some x y m h) ∙ omega arith
-
-  -- what was handed out and what is left, after one more
-  pub handed_more : (x y : Winnow H C V) (m : Placed V) (done all : List (Placed V)) → Handed hash cmp read x y (Some m) → done ++ remaining hash cmp read x ≡ all → (done ++ m ∷ []) ++ remaining hash cmp read y ≡ all
-  handed_more x y m done all h e = append_assoc done (m ∷ []) (remaining hash cmp read y) ∙ ap (λ l. done ++ l) (sym (handed_some x y m h)) ∙ e
-
-module _ {H C V : Type 0} {hash : List ℕ → V} {cmp : V → V → Ordering} {read : C → List ℕ} where
-  -- there are no more places than codes
-  pub remaining_few : (x : Winnow H C V) → Walking hash cmp read x → length (remaining hash cmp read x) < 2 ^ 64
-  unfolding remaining
-  remaining_few x h =
-      let at = row_of hash cmp read x in
-      let n = grams x.k (walked hash cmp read x) in
-      let all = chosen cmp x.queue.width at n in
-      let low = h.going.low in
-      let size = h.going.size in
-      let a = length-map (filter (leb x.from) all) (at_place at) in
-      let b = kept_few (leb x.from) all in
-      let c = kept_few (is_picked cmp x.queue.width at n) (range_with_len 0 n) in
-      let d = length-range_with_len 0 n in
-      omega arith
+-- those from the first place on are all
+pub from_start : {V : Type 0} (hash : List ℕ → V) (cmp : V → V → Ordering) (k w : ℕ) (cs : List ℕ) → winnowed_from hash cmp k w cs 0 ≡ winnowed hash cmp k w cs
+unfolding winnowed winnowed_from
+from_start hash cmp k w cs = ap (map (at_place (value_at hash k cs))) (kept_whole 0 (chosen cmp w (value_at hash k cs) (grams k cs)) (λ y i. omega arith))
 
 -- ---- all fingerprints
 

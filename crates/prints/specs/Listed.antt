@@ -18,6 +18,14 @@ pub record Fit (k w room : ℕ) (cs : List ℕ) : Type 0 where
   pub work : w ≤ room
   pub coded : Coded cs
 
+-- why k and w choose no places
+abbrev pub NoWinnowing : ℕ → ℕ → Unfit → Type 0
+NoWinnowing k w unfit.Gram = (1 ≤ k) × (k ≤ 64) → ⊥
+NoWinnowing k w unfit.Window = (1 ≤ k) × (k ≤ 64) × (w ≡ 0)
+NoWinnowing k w unfit.Work = ⊥
+NoWinnowing k w unfit.Code = ⊥
+NoWinnowing k w unfit.Memory = ⊥
+
 -- the reason why not, the first that holds
 abbrev pub UnfitFor : ℕ → ℕ → ℕ → List ℕ → Unfit → Type 0
 UnfitFor k w room cs unfit.Gram = (1 ≤ k) × (k ≤ 64) → ⊥

@@ -1,11 +1,12 @@
 -- The walk over a file's codes. Assumes nothing.
-use Rattle.std.specs.Prelude.{◌≡◌, ℕ, ◌+◌, ◌-◌, ◌^◌, ◌<◌, ◌≤◌, List, [], ◌∷◌, map, length, take, drop, Some, None, filter, Option, nat_le}
+use Rattle.std.specs.Prelude.{◌≡◌, ℕ, ◌+◌, ◌-◌, ◌^◌, ◌<◌, ◌≤◌, List, map, length, take, drop, filter, Option, MatchOption, nat_le}
 use Rattle.std.specs.declared.cmp.Ordering.{Ordering}
 use Rattle.prints.specs.declared.window.Placed.{Placed}
-use Rattle.prints.specs.declared.walk.Winnow.{Winnow}
+use Rattle.prints.specs.declared.window.WindowQueue.{WindowQueue}
+use Rattle.prints.specs.declared.walk.Grams.{Grams}
 use Rattle.prints.specs.Grams.{Coded}
 use Rattle.prints.specs.Choice.{Rightmost, chosen, at_place, fingerprints}
-use Rattle.prints.specs.Window.{Holds, Pushed}
+use Rattle.prints.specs.Window.{width, Holds}
 
 -- the k codes from place i on
 abbrev pub gram : ℕ → List ℕ → ℕ → List ℕ
@@ -23,58 +24,40 @@ value_at hash k cs i = hash (gram k cs i)
 unfoldable pub winnowed : {V : Type 0} → (List ℕ → V) → (V → V → Ordering) → ℕ → ℕ → List ℕ → List (Placed V)
 winnowed hash cmp k w cs = fingerprints cmp w (value_at hash k cs) (grams k cs)
 
-abbrev pub first : {X : Type 0} → List X → Option X
-first [] = None
-first (x ∷ xs) = Some x
+-- those from a place on
+unfoldable pub winnowed_from : {V : Type 0} → (List ℕ → V) → (V → V → Ordering) → ℕ → ℕ → List ℕ → ℕ → List (Placed V)
+winnowed_from hash cmp k w cs from = map (at_place (value_at hash k cs)) (filter (nat_le from) (chosen cmp w (value_at hash k cs) (grams k cs)))
 
-abbrev pub rest : {X : Type 0} → List X → List X
-rest [] = []
-rest (x ∷ xs) = xs
+-- ---- the grams that are still to come
+
+module _ {H C V : Type 0} (hash : List ℕ → V) (read : C → List ℕ) where
+  -- the codes that it goes over
+  abbrev pub codes_of : Grams H C V → List ℕ
+  codes_of x = read x.codes
+
+  -- the values of all grams
+  abbrev pub row_of : Grams H C V → ℕ → V
+  row_of x = value_at hash x.k (codes_of x)
+
+  -- it holds the value at its place, while there is a gram
+  pub record Going (x : Grams H C V) : Type 0 where
+    pub low : 1 ≤ x.k
+    pub high : x.k ≤ 64
+    pub coded : Coded (codes_of x)
+    pub size : length (codes_of x) < 2 ^ 64
+    pub held : MatchOption x.value (grams x.k (codes_of x) ≤ x.place) (λ v. (x.place < grams x.k (codes_of x)) × (v ≡ row_of x x.place))
+
+  -- going from x to y it gave r: the value at its place, and nothing where there was no gram
+  pub record Gave (x : Grams H C V) (r : Option (Placed V)) (y : Grams H C V) : Type 0 where
+    pub going : Going y
+    pub codes : y.codes ≡ x.codes
+    pub k : y.k ≡ x.k
+    pub gave : MatchOption r ((grams x.k (codes_of x) ≤ x.place) × (y.place ≡ x.place)) (λ m. (x.place < grams x.k (codes_of x)) × (m ≡ at_place (row_of x) x.place) × (y.place ≡ x.place + 1))
 
 -- ---- the walk's state
 
-module _ {H C V : Type 0} (hash : List ℕ → V) (cmp : V → V → Ordering) (read : C → List ℕ) where
-  -- the codes that it walks over
-  abbrev pub walked : Winnow H C V → List ℕ
-  walked x = read x.codes
-
-  -- the values of its row
-  abbrev pub row_of : Winnow H C V → ℕ → V
-  row_of x = value_at hash x.k (walked x)
-
-  -- what it has yet to hand out: the chosen places from `from` on
-  unfoldable pub remaining : Winnow H C V → List (Placed V)
-  remaining x = map (at_place (row_of x)) (filter (nat_le x.from) (chosen cmp x.queue.width (row_of x) (grams x.k (walked x))))
-
-  -- it has pushed the values before `next`, and holds the one at `next` while there is one
-  pub record Going (x : Winnow H C V) : Type 0 where
-    pub low : 1 ≤ x.k
-    pub high : x.k ≤ 64
-    pub coded : Coded (walked x)
-    pub size : length (walked x) < 2 ^ 64
-    pub count : x.next + x.left ≡ grams x.k (walked x)
-    pub held : 0 < x.left → x.value ≡ row_of x x.next
-    pub queue : Holds cmp (row_of x) x.next x.queue
-
-  -- and it has handed out what the windows among those values chose
-  pub record Walking (x : Winnow H C V) : Type 0 where
-    pub going : Going x
-    pub gone : (s p : ℕ) → s + x.queue.width ≤ x.next → Rightmost cmp (row_of x) s x.queue.width p → p < x.from
-
-  -- it has pushed one value more
-  pub record Advanced (x y : Winnow H C V) (r : Option (Placed V)) : Type 0 where
-    pub codes : y.codes ≡ x.codes
-    pub k : y.k ≡ x.k
-    pub from : y.from ≡ x.from
-    pub width : y.queue.width ≡ x.queue.width
-    pub next : y.next ≡ x.next + 1
-    pub left : y.left + 1 ≡ x.left
-    pub held : 0 < y.left → y.value ≡ row_of x y.next
-    pub pushed : Pushed cmp (row_of x) x.next x.queue.width y.queue r
-
-  -- a walk from x to y that answered r: the first that was to hand out, and the others are left
-  pub record Handed (x y : Winnow H C V) (r : Option (Placed V)) : Type 0 where
-    pub walking : Walking y
-    pub codes : y.codes ≡ x.codes
-    pub answer : r ≡ first (remaining x)
-    pub leaves : remaining y ≡ rest (remaining x)
+-- the queue has taken the values of the grams that came, and the walk has handed out what the windows among them chose
+pub record Walking {H C V : Type 0} (hash : List ℕ → V) (cmp : V → V → Ordering) (read : C → List ℕ) (x : Grams H C V) (q : WindowQueue V) (from : ℕ) : Type 0 where
+  pub going : Going hash read x
+  pub queue : Holds cmp (row_of hash read x) x.place q
+  pub gone : (s p : ℕ) → s + width q ≤ x.place → Rightmost cmp (row_of hash read x) s (width q) p → p < from

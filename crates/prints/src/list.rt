@@ -1,13 +1,16 @@
 // All chosen places of a list of codes at once.
 ghost use Rattle.std.specs.Prelude.{◌≡◌, map, length, IfOk, Decides, MatchResult};
 ghost use Rattle.prints.specs.declared.list.Unfit.TheVariants.{Memory};
-ghost use Rattle.prints.specs.Grams.{Coded};
+ghost use Rattle.prints.specs.Grams.{Code, Coded};
 ghost use Rattle.prints.specs.Listed.{Fit, UnfitFor, ChosenListed};
 
 use crate::hash::GramHash;
 use crate::walk::{CodeList, Codes, Winnow};
 use crate::window::Placed;
-use std::alloc::{AllocFailed, Global};
+use crate::winnowing::Winnowing;
+use std::alloc::{AllocError, Global};
+use std::error::Error;
+use std::fmt;
 
 // Why codes have no list of chosen places.
 #[derive(Clone, Copy, PartialEq, Eq, Debug)]
@@ -24,24 +27,39 @@ pub enum Unfit {
     Memory,
 }
 
-impl<T: Drop> From<AllocFailed<T>> for Unfit {
+impl From<AllocError> for Unfit {
     ghost from_gives = { λ _ r. r ≡ Memory };
 
-    fn from(_: AllocFailed<T>) -> Unfit {
+    fn from(_: AllocError) -> Unfit {
         Unfit::Memory
     }
+}
+
+impl fmt::Display for Unfit {
+    fn fmt<W: fmt::Write>(&self, f: &mut fmt::Formatter<W>) -> fmt::Result {
+        f.write_str(match self {
+            Unfit::Gram => "k is not 1 to 64",
+            Unfit::Window => "w is 0",
+            Unfit::Work => "the work list is too short",
+            Unfit::Code => "a code is not 1 to 1023",
+            Unfit::Memory => "no memory",
+        })
+    }
+}
+
+impl Error for Unfit {}
+
+fn is_code(c: u16) -> bool
+    ensures { Decides result (Code c) }
+{
+    (1..=1023).contains(&c)
 }
 
 // Whether each is a code.
 fn all_codes(codes: &[u16]) -> bool
     ensures { Decides result (Coded codes.now) }
 {
-    for c in codes {
-        if *c < 1 || *c > 1023 {
-            return false;
-        }
-    }
-    true
+    codes.iter().all(|c| is_code(*c))
 }
 
 // The chosen places of these codes in rising order, each with its value: grams of k codes, windows of w values.
@@ -55,22 +73,13 @@ pub fn fingerprints<H: GramHash>(
     ensures fit { MatchResult result (λ _. Fit k w (length work.old) codes.now) (UnfitFor k w (length work.old) codes.now) }
     ensures listed { IfOk result (λ v. ChosenListed H.GramHash.value H.Value.Ord.cmp k w codes.now v.items) }
 {
-    if k < 1 || k > 64 {
-        return Err(Unfit::Gram);
-    }
-    if w == 0 {
-        return Err(Unfit::Window);
-    }
-    if work.len() < w {
+    let by = Winnowing::new(k, w)?;
+    if work.len() < by.w {
         return Err(Unfit::Work);
     }
     if !all_codes(codes) {
         return Err(Unfit::Code);
     }
-    let mut list = Vec::new(heap);
-    let mut walk = Winnow::<H, CodeList<'_>>::new(CodeList { all: codes }, k, w, work);
-    while let Some(found) = walk.next() {
-        list.push(found)?;
-    }
-    Ok(list)
+    let walk = Winnow::<H, CodeList<'_>>::new(CodeList { all: codes }, by, work);
+    Ok(walk.collect(heap)?)
 }

@@ -1,11 +1,14 @@
 // The walk over a file's codes that hands out its chosen places.
-ghost use Rattle.std.specs.Prelude.{◌≡◌, ℕ, ◌+◌, ◌-◌, ◌^◌, ◌<◌, ◌≤◌, List, [], length, take, slice_index};
-ghost use Rattle.prints.specs.Walk.{Going, Walking, Advanced, Handed, remaining, winnowed};
+ghost use Rattle.std.specs.Prelude.{◌≡◌, ℕ, ◌+◌, ◌-◌, ◌^◌, ◌<◌, ◌≤◌, List, [], length, take, slice_index, MatchOption};
+ghost use Rattle.std.specs.Iterator.{YieldsFirst, item_count};
+ghost use Rattle.prints.specs.Walk.{Going, Gave, winnowed};
 ghost use Rattle.prints.specs.Grams.{Coded, Gram, Rolls};
 
 use crate::hash::GramHash;
 use crate::window::{Placed, WindowQueue};
+use crate::winnowing::Winnowing;
 use order::Order;
+use std::marker::Model;
 
 // A list of codes that is read by place.
 pub trait Codes {
@@ -33,23 +36,8 @@ impl Codes for CodeList<'_> {
     }
 
     fn code(&self, i: usize) -> u16 {
-        if i < self.all.len() { self.all[i] } else { 0 }
+        self.all.get(i).copied().unwrap_or(0)
     }
-}
-
-// A walk over codes that hands out the chosen places in rising order, each with its value.
-#[derive(Drop)]
-pub struct Winnow<'a, H: GramHash, C: Codes> {
-    codes: C,
-    k: usize,
-    // the value at `next`, while there is one
-    value: H::Value,
-    next: usize,
-    // how many values are still to come
-    left: usize,
-    // the least place that may still be handed out
-    from: usize,
-    queue: WindowQueue<'a, H::Value>,
 }
 
 // The value of the first k codes.
@@ -64,70 +52,124 @@ fn first_value<H: GramHash, C: Codes>(codes: &C, k: usize) -> H::Value
     H::of(&gram[0..k])
 }
 
-// How many grams of k codes there are among `len` codes.
-fn gram_count(len: usize, k: usize) -> usize
-    requires { 1 ≤ k }
-    ensures { result ≡ len + 1 - k }
+// From the value of the gram at a place to that of the next, while there is one.
+fn rolled<H: GramHash, C: Codes>(
+    codes: &C,
+    value: H::Value,
+    k: usize,
+    place: usize,
+) -> Option<H::Value>
+    requires { place + k < 2 ^ 64 }
+    ensures { MatchOption result (length (C.Codes.codes codes.now) ≤ place + k) (λ next. (place + k < length (C.Codes.codes codes.now)) × Rolls H.GramHash.value value k (slice_index (C.Codes.codes codes.now) place) (slice_index (C.Codes.codes codes.now) (place + k)) next) }
 {
-    if len < k { 0 } else { len - k + 1 }
+    let behind = place + k;
+    if behind < codes.len() {
+        Some(H::roll(value, k, codes.code(place), codes.code(behind)))
+    } else {
+        None
+    }
 }
 
-// From the value of the gram at i to that of the next.
-fn rolled<H: GramHash, C: Codes>(codes: &C, value: H::Value, k: usize, i: usize) -> H::Value
-    requires { i + k < 2 ^ 64 }
-    ensures { Rolls H.GramHash.value value k (slice_index (C.Codes.codes codes.now) i) (slice_index (C.Codes.codes codes.now) (i + k)) result }
-{
-    let out = codes.code(i);
-    let next = codes.code(i + k);
-    H::roll(value, k, out, next)
+// The grams from a place on, each as its place and its value.
+#[derive(Drop)]
+struct Grams<H: GramHash, C: Codes> {
+    codes: C,
+    k: usize,
+    place: usize,
+    // the value at `place`, while there is a gram
+    value: Option<H::Value>,
+}
+
+impl<H: GramHash, C: Codes> Grams<H, C> {
+    // All grams of k codes.
+    fn new(codes: C, k: usize) -> Grams<H, C>
+        requires gram { (1 ≤ k) × (k ≤ 64) }
+        requires coded { Coded (C.Codes.codes codes) }
+        ensures going { Going H.GramHash.value C.Codes.codes result }
+        ensures codes { result.codes ≡ codes }
+        ensures k { result.k ≡ k }
+        ensures place { result.place ≡ 0 }
+    {
+        let value = if k <= codes.len() {
+            Some(first_value::<H, C>(&codes, k))
+        } else {
+            None
+        };
+        Grams {
+            codes,
+            k,
+            place: 0,
+            value,
+        }
+    }
+}
+
+impl<H: GramHash, C: Codes + Drop> Iterator for Grams<H, C> {
+    type Item = Placed<H::Value>;
+
+    ghost can_next = { Going H.GramHash.value C.Codes.codes };
+
+    ghost next_gives = { Gave H.GramHash.value C.Codes.codes };
+
+    fn next(&mut self) -> Option<Placed<H::Value>> {
+        let value = self.value?;
+        let place = self.place;
+        self.place += 1;
+        self.value = rolled::<H, C>(&self.codes, value, self.k, place);
+        Some(Placed { place, value })
+    }
+}
+
+// A walk over codes that hands out the chosen places in rising order, each with its value. Clauses see it as the list of those that
+// it has yet to hand out.
+#[derive(Drop)]
+pub struct Winnow<'a, H: GramHash, C: Codes> {
+    grams: Grams<H, C>,
+    queue: WindowQueue<'a, H::Value>,
+    // the least place that may still be handed out
+    from: usize,
+}
+
+impl<'a, H: GramHash, C: Codes> Model for Winnow<'a, H, C> {
+    ghost use Rattle.std.specs.Prelude.{List, length};
+    ghost use Rattle.prints.specs.declared.window.Placed.{Placed};
+
+    ghost Value = { List (Placed H.Value) };
+
+    ghost use Rattle.prints.specs.Walk.{winnowed_from, Walking};
+
+    ghost view = { λ s. winnowed_from H.GramHash.value H.Value.Ord.cmp s.grams.k (length s.queue.slots.now) (C.Codes.codes s.grams.codes) s.from };
+
+    ghost invariant = { λ s. Walking H.GramHash.value H.Value.Ord.cmp C.Codes.codes s.grams s.queue s.from };
 }
 
 impl<'a, H: GramHash, C: Codes> Winnow<'a, H, C> {
-    // A walk over these codes with grams of k codes and windows of w values. It uses the first w entries of the work list.
-    pub fn new(codes: C, k: usize, w: usize, work: &'a mut [Placed<H::Value>]) -> Winnow<'a, H, C>
-        requires gram { (1 ≤ k) × (k ≤ 64) }
-        requires window { (1 ≤ w) × (w ≤ length work.old) }
+    // A walk over these codes. It uses the first w entries of the work list.
+    pub fn new(codes: C, by: Winnowing, work: &'a mut [Placed<H::Value>]) -> Winnow<'a, H, C>
+        requires room { by.w ≤ length work.old }
         requires coded { Coded (C.Codes.codes codes) }
-        ensures walking { Walking H.GramHash.value H.Value.Ord.cmp C.Codes.codes result }
-        ensures all { remaining H.GramHash.value H.Value.Ord.cmp C.Codes.codes result ≡ winnowed H.GramHash.value H.Value.Ord.cmp k w (C.Codes.codes codes) }
+        ensures all { result ≡ winnowed H.GramHash.value H.Value.Ord.cmp by.k by.w (C.Codes.codes codes) }
+        ensures few { length result < 2 ^ 64 }
     {
-        let left = gram_count(codes.len(), k);
-        let value = first_value::<H, C>(&codes, k);
-        let queue = WindowQueue::new(work, w);
         Winnow {
-            codes,
-            k,
-            value,
-            next: 0,
-            left,
+            grams: Grams::new(codes, by.k),
+            queue: WindowQueue::new(work, by.w),
             from: 0,
-            queue,
         }
     }
+}
 
-    // Pushes the value at `next`, and answers the best of the window that ends there.
-    fn advance(&mut self) -> Option<Placed<H::Value>>
-        requires { (Going H.GramHash.value H.Value.Ord.cmp C.Codes.codes self.old) × (0 < self.old.left) }
-        ensures { Advanced H.GramHash.value H.Value.Ord.cmp C.Codes.codes self.old self.new result }
-    {
-        let i = self.next;
-        let best = self.queue.push(i, self.value);
-        self.next = i + 1;
-        self.left -= 1;
-        if self.left == 0 {
-            return best;
-        }
-        self.value = rolled::<H, C>(&self.codes, self.value, self.k, i);
-        best
-    }
+impl<H: GramHash, C: Codes + Drop> Iterator for Winnow<'_, H, C> {
+    type Item = Placed<H::Value>;
+
+    ghost next_gives = { YieldsFirst (λ s. s) };
+
+    ghost remaining = { item_count (λ s. s) };
 
     // The next chosen place with its value.
-    pub fn next(&mut self) -> Option<Placed<H::Value>>
-        requires { Walking H.GramHash.value H.Value.Ord.cmp C.Codes.codes self.old }
-        ensures { Handed H.GramHash.value H.Value.Ord.cmp C.Codes.codes self.old self.new result }
-    {
-        while self.left > 0 {
-            if let Some(best) = self.advance() {
+    fn next(&mut self) -> Option<Placed<H::Value>> {
+        while let Some(here) = self.grams.next() {
+            if let Some(best) = self.queue.push(here) {
                 if best.place >= self.from {
                     self.from = best.place + 1;
                     return Some(best);
@@ -135,18 +177,5 @@ impl<'a, H: GramHash, C: Codes> Winnow<'a, H, C> {
             }
         }
         None
-    }
-
-    // Goes to the end, and answers how many places there were still to hand out.
-    pub fn count(&mut self) -> usize
-        requires { Walking H.GramHash.value H.Value.Ord.cmp C.Codes.codes self.old }
-        ensures all { result ≡ length (remaining H.GramHash.value H.Value.Ord.cmp C.Codes.codes self.old) }
-        ensures none { remaining H.GramHash.value H.Value.Ord.cmp C.Codes.codes self.new ≡ [] }
-    {
-        let mut n = 0;
-        while let Some(_) = self.next() {
-            n += 1;
-        }
-        n
     }
 }

@@ -1,103 +1,100 @@
-// The window queue: of the last `width` values that it took, the rightmost of the smallest.
-ghost use Rattle.std.specs.Prelude.{◌≡◌, ℕ, ◌+◌, ◌-◌, ◌<◌, ◌≤◌, Bool, true, false, length, if◌then◌else◌, nat_eq};
-ghost use Rattle.prints.specs.Window.{placed, better_of, Whole, Settled, Ready, Holds, Pushed};
+// The window queue: of the last values that it took, as many as it has slots, the rightmost of the smallest.
+ghost use Rattle.std.specs.Prelude.{◌≡◌, ℕ, ◌<◌, ◌≤◌, length, MatchOption};
+ghost use Rattle.prints.specs.Best.{better_of, Whole, Settled};
 
 use order::Order;
 use std::cmp::Ordering;
 
 // A value and its place in the row.
-#[derive(Clone, Copy)]
+#[derive(Clone, Copy, PartialEq, Eq, Debug)]
 pub struct Placed<V> {
     pub place: usize,
     pub value: V,
 }
 
-// Values come in blocks of `width`. The slots hold the values of this block as they came; of the block before, each slot that is
-// not yet written over holds the best from its place to that block's end. So a window is the rest of a block and the front of the
-// next, and each value is compared three times.
+// Values come in blocks of one for each slot. The slots hold the values of this block as they came; of the block before, each slot
+// that is not yet written over holds the best from its place to that block's end. So a window is the rest of a block and the front of
+// the next, and each value is compared three times.
 #[derive(Drop)]
 pub struct WindowQueue<'a, V> {
     slots: &'a mut [Placed<V>],
-    width: usize,
     taken: usize,
+    // the best of this block's values
+    back: Option<Placed<V>>,
+    // whether there was a block before
     wrapped: bool,
-    back: Placed<V>,
+    ghost room: { taken < length slots.now },
 }
 
 // Of two values the smaller, and the later of two equal ones.
-fn better<V: Order>(earlier: &Placed<V>, later: &Placed<V>) -> Placed<V>
-    ensures { result ≡ better_of V.Ord.cmp earlier.now later.now }
+fn better<V: Order>(earlier: Placed<V>, later: Placed<V>) -> Placed<V>
+    ensures { result ≡ better_of V.Ord.cmp earlier later }
 {
     match earlier.value.cmp(&later.value) {
-        Ordering::Less => *earlier,
-        _ => *later,
+        Ordering::Less => earlier,
+        _ => later,
     }
 }
 
-// The best of a block of which `taken` values came before, with one value more.
-fn grown<V: Order>(taken: usize, back: &Placed<V>, place: usize, value: V) -> Placed<V>
-    ensures { result ≡ (if nat_eq taken 0 then placed place value else better_of V.Ord.cmp back.now (placed place value)) }
+// The best of a block's values, with one value more.
+fn grown<V: Order>(back: Option<Placed<V>>, new: Placed<V>) -> Placed<V>
+    ensures { MatchOption back (result ≡ new) (λ m. result ≡ better_of V.Ord.cmp m new) }
 {
-    let new = Placed { place, value };
-    if taken == 0 {
-        return new;
-    }
-    better(back, &new)
+    back.map_or(new, |back| better(back, new))
 }
 
 // From a whole block of values to the best of each one's and those after it.
-fn settle<V: Order>(slots: &mut [Placed<V>], width: usize)
-    requires { (0 < width) × (width ≤ length slots.old) }
+fn settle<V: Order>(slots: &mut [Placed<V>])
+    requires { 0 < length slots.old }
     ensures same { length slots.new ≡ length slots.old }
-    ensures best { (at : ℕ → V) (b : ℕ) → Whole V.Ord.cmp at b width slots.old → Settled V.Ord.cmp at b width slots.new }
+    ensures best { (at : ℕ → V) (b : ℕ) → Whole V.Ord.cmp at b slots.old → Settled V.Ord.cmp at b slots.new }
 {
-    let mut best = slots[width - 1];
-    for j in (0..width - 1).rev() {
-        best = better(&slots[j], &best);
+    let last = slots.len() - 1;
+    let mut best = slots[last];
+    // by index: of what `iter_mut` leaves, a proof knows no element
+    for j in (0..last).rev() {
+        best = better(slots[j], best);
         slots[j] = best;
     }
 }
 
 impl<'a, V: Order> WindowQueue<'a, V> {
+    ghost use Rattle.prints.specs.Choice.{at_place};
+    ghost use Rattle.prints.specs.Window.{Holds, Pushed};
+
     // An empty queue over the first `width` slots.
     pub fn new(slots: &'a mut [Placed<V>], width: usize) -> WindowQueue<'a, V>
         requires { (0 < width) × (width ≤ length slots.old) }
-        ensures width { result.width ≡ width }
-        ensures ready { Ready result }
+        ensures width { length result.slots.now ≡ width }
         ensures none { (at : ℕ → V) → Holds V.Ord.cmp at 0 result }
     {
-        let back = slots[0];
         WindowQueue {
-            slots,
-            width,
+            slots: &mut slots[..width],
             taken: 0,
+            back: None,
             wrapped: false,
-            back,
         }
     }
 
     // Takes the next value of the row, and answers the best of the window that ends with it, once there are enough for one.
-    pub fn push(&mut self, place: usize, value: V) -> Option<Placed<V>>
-        requires { Ready self.old }
-        ensures width { self.new.width ≡ self.old.width }
-        ensures ready { Ready self.new }
-        ensures best { (at : ℕ → V) (n : ℕ) → Holds V.Ord.cmp at n self.old → place ≡ n → value ≡ at n → Pushed V.Ord.cmp at n self.old.width self.new result }
+    pub fn push(&mut self, new: Placed<V>) -> Option<Placed<V>>
+        ensures width { length self.new.slots.now ≡ length self.old.slots.now }
+        ensures best { (at : ℕ → V) (n : ℕ) → Holds V.Ord.cmp at n self.old → new ≡ at_place at n → Pushed V.Ord.cmp at n self.new result }
     {
-        let width = self.width;
-        let taken = self.taken;
-        self.back = grown(taken, &self.back, place, value);
-        self.slots[taken] = Placed { place, value };
-        let next = taken + 1;
-        if next == width {
-            settle(self.slots, width);
+        let back = grown(self.back, new);
+        self.slots[self.taken] = new;
+        let next = self.taken + 1;
+        if next == self.slots.len() {
+            settle(self.slots);
             self.taken = 0;
+            self.back = None;
             self.wrapped = true;
-            return Some(self.back);
+            return Some(back);
         }
         self.taken = next;
+        self.back = Some(back);
         if self.wrapped {
-            let rest = self.slots[next];
-            Some(better(&rest, &self.back))
+            Some(better(self.slots[next], back))
         } else {
             None
         }
