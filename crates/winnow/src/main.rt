@@ -3,7 +3,7 @@
 
 use prints::cyclic::CyclicShift;
 use prints::hash::GramHash;
-use prints::list::{Unfit, fingerprints};
+use prints::list::fingerprints;
 use prints::pair::Pair;
 use prints::polynomial::Polynomial;
 use prints::window::Placed;
@@ -12,17 +12,6 @@ const TEXT: [u16; 21] = [
     97, 100, 111, 114, 117, 110, 114, 117, 110, 114, 117, 110, 97, 100, 111, 114, 117, 110, 114,
     117, 110,
 ];
-
-// What stopped the listing.
-fn reason(unfit: Unfit) -> &'static str {
-    match unfit {
-        Unfit::Gram => "k is not 1 to 64",
-        Unfit::Window => "w is 0",
-        Unfit::Work => "the work list is too short",
-        Unfit::Code => "a code is not 1 to 1023",
-        Unfit::Memory => "no memory",
-    }
-}
 
 fn values(rt: &HostRuntime) -> anyhow::Result<()> {
     println!(rt;
@@ -45,15 +34,10 @@ fn listing(rt: &HostRuntime) -> anyhow::Result<()> {
         value: 0u32,
     }; 4];
     println!(rt; "fingerprints of adorunrunrunadorunrun, k = 5, w = 4:")?;
-    match fingerprints::<Polynomial>(rt.alloc(), &TEXT, 5, 4, &mut work) {
-        Ok(list) => {
-            for found in list.iter() {
-                println!(rt; "place {}, value {}", found.place, found.value)?;
-            }
-            Ok(())
-        }
-        Err(unfit) => Err(anyhow::anyhow!(reason(unfit))),
+    for found in &fingerprints::<Polynomial>(rt.alloc(), &TEXT, 5, 4, &mut work)? {
+        println!(rt; "place {}, value {}", found.place, found.value)?;
     }
+    Ok(())
 }
 
 fn run(rt: &HostRuntime) -> anyhow::Result<()> {
