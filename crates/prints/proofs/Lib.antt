@@ -1,7 +1,9 @@
+pub mod Folds
 pub mod Weights
 pub mod Turns
 pub mod Picks
 pub mod Windows
+pub mod Made
 pub mod Walks
 pub mod Onward
 pub mod Winnowed

@@ -1,7 +1,7 @@
 -- Grams that move on, and what a walk has yet to hand out. Assumes nothing.
-use Rattle.std.proofs.Common.{◌≡◌, ℕ, suc, ◌+◌, ◌-◌, ◌<◌, ◌≤◌, leb, List, [], ◌∷◌, ◌++◌, length, get_or, take, drop, set, filter, Option, Some, None, MatchOption, Ordering, sym, refl, ap, ◌∙◌, subst, ap₂, inl, inr, ⊎_elim, arith}
+use Rattle.std.proofs.Common.{◌≡◌, ℕ, suc, ◌+◌, ◌-◌, ◌<◌, ◌≤◌, leb, List, [], ◌∷◌, ◌++◌, length, get_or, take, drop, filter, Option, Some, None, MatchOption, Ordering, sym, refl, ap, ◌∙◌, subst, ap₂, inl, inr, ⊎_elim, arith}
 use Rattle.std.proofs.ByRecursion.{All-get_or, All-take, All-drop}
-use Rattle.std.proofs.lemmas.List.{ext_get_or, get_or-take, get_or-drop, length-take, length-drop, drop_more, take_more, get_or-set_same, get_or-set_other}
+use Rattle.std.proofs.lemmas.List.{ext_get_or, get_or-take, get_or-drop, length-take, length-drop, drop_more, take_more}
 use Rattle.std.proofs.lemmas.Bool.{cases_eq, cases_lt, le-leb, lt-leb, cond-true, cond-false}
 use Rattle.order.specs.Total.{TotalOrder}
 use Rattle.order.specs.Listed.{In, Rising}
@@ -20,10 +20,6 @@ same_front xs ys k f g h =
     let a : length (take k xs) ≡ k = simp length-take (omega arith) in
     let b : length (take k ys) ≡ k = simp length-take (omega arith) in
     ext_get_or 0 (take k xs) (take k ys) (a ∙ sym b) (λ i lt. let in' : i < k = omega arith in get_or-take k xs i 0 in' ∙ h i in' ∙ sym (get_or-take k ys i 0 in'))
-
-pub copied_more : (xs ys : List ℕ) (i x : ℕ) → i < length xs → x ≡ get_or ys i 0 → ((j : ℕ) → j < i → get_or xs j 0 ≡ get_or ys j 0) → (j : ℕ) → j < i + 1 → get_or (set xs i x) j 0 ≡ get_or ys j 0
-copied_more xs ys i x in' e h j lt =
-    ⊎_elim (λ same. ap (λ m. get_or (set xs i x) m 0) same ∙ get_or-set_same xs i x 0 in' ∙ e ∙ ap (λ m. get_or ys m 0) (sym same)) (λ ne. get_or-set_other xs i j x 0 ne ∙ h j (omega arith)) (cases_eq j i)
 
 module _ (cs : List ℕ) (k i : ℕ) (low : 1 ≤ k) where
   pub length_gram : i + k ≤ length cs → length (gram k cs i) ≡ k

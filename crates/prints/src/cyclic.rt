@@ -13,7 +13,7 @@ fn rotated_by(x: u32, n: usize) -> u32
 }
 
 // The spread number of each code, rotated left by the number of codes behind it, all joined by exclusive or; ordered as numbers.
-pub struct CyclicShift {}
+pub struct CyclicShift;
 
 impl GramHash for CyclicShift {
     type Value = u32;
@@ -21,11 +21,9 @@ impl GramHash for CyclicShift {
     ghost value = { cyclic };
 
     fn of(codes: &[u16]) -> u32 {
-        let mut sum: u32 = 0;
-        for c in codes {
-            sum = rotated_by(sum, 1) ^ spread_of(*c);
-        }
-        sum
+        codes
+            .iter()
+            .fold(0, |sum, c| rotated_by(sum, 1) ^ spread_of(*c))
     }
 
     fn roll(before: u32, k: usize, out: u16, next: u16) -> u32 {

@@ -5,7 +5,7 @@ ghost use Rattle.prints.specs.Grams.{Code, Coded};
 ghost use Rattle.prints.specs.Listed.{Fit, UnfitFor, ChosenListed};
 
 use crate::hash::GramHash;
-use crate::walk::{CodeList, Codes, Winnow};
+use crate::walk::{Codes, Winnow};
 use crate::window::Placed;
 use crate::winnowing::Winnowing;
 use std::alloc::{AllocError, Global};
@@ -80,6 +80,6 @@ pub fn fingerprints<H: GramHash>(
     if !all_codes(codes) {
         return Err(Unfit::Code);
     }
-    let walk = Winnow::<H, CodeList<'_>>::new(CodeList { all: codes }, by, work);
+    let walk = Winnow::<H, &[u16]>::new(codes, by, work);
     Ok(walk.collect(heap)?)
 }

@@ -3,10 +3,7 @@ use crate::hash::GramHash;
 use std::marker::PhantomData;
 
 // The values of both hashes, ordered by the first, then the second. Each may be a pair again.
-pub struct Pair<A, B> {
-    first: PhantomData<A>,
-    second: PhantomData<B>,
-}
+pub struct Pair<A, B>(PhantomData<(A, B)>);
 
 impl<A: GramHash, B: GramHash> GramHash for Pair<A, B> {
     type Value = (A::Value, B::Value);

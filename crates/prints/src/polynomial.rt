@@ -1,5 +1,5 @@
 // The polynomial hash (Karp and Rabin, 1987).
-ghost use Rattle.std.specs.Prelude.{◌≡◌, ◌-◌, ◌%◌, ◌^◌, ◌≤◌};
+ghost use Rattle.std.specs.Prelude.{◌≡◌, ◌+◌, ◌-◌, ◌*◌, ◌%◌, ◌^◌, ◌≤◌};
 ghost use Rattle.prints.specs.Hashes.{prime, polynomial};
 
 use crate::hash::GramHash;
@@ -22,11 +22,18 @@ const LEAVING: [u32; 64] = [
 fn leaving(k: usize) -> u32
     ensures { 1 ≤ k → k ≤ 64 → result ≡ prime - 1000 ^ k % prime }
 {
-    LEAVING[k & 63]
+    LEAVING[k % 64]
+}
+
+// From the value of some codes to that of these and one more.
+fn with_code(value: u32, c: u16) -> u32
+    ensures { result ≡ (value * 1000 + c) % prime }
+{
+    ((u64::from(value) * 1000 + u64::from(c)) % PRIME) as u32
 }
 
 // c1 × 1000^(k−1) + … + ck modulo 2147483647, ordered as numbers.
-pub struct Polynomial {}
+pub struct Polynomial;
 
 impl GramHash for Polynomial {
     type Value = u32;
@@ -34,11 +41,7 @@ impl GramHash for Polynomial {
     ghost value = { polynomial };
 
     fn of(codes: &[u16]) -> u32 {
-        let mut sum: u64 = 0;
-        for c in codes {
-            sum = (sum * 1000 + u64::from(*c)) % PRIME;
-        }
-        sum as u32
+        codes.iter().fold(0, |sum, c| with_code(sum, *c))
     }
 
     fn roll(before: u32, k: usize, out: u16, next: u16) -> u32 {

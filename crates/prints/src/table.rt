@@ -1,5 +1,5 @@
 // The table of the cyclic shift hash.
-ghost use Rattle.std.specs.Prelude.{◌≡◌, ◌<◌};
+ghost use Rattle.std.specs.Prelude.{◌≡◌, ◌%◌};
 ghost use Rattle.prints.specs.Hashes.{spread};
 
 // Each code's spread number, c × 2654435761 modulo 2^32.
@@ -136,7 +136,7 @@ const SPREAD: [u32; 1024] = [
 
 // The spread number of a code; of a number that is no code, that of its last ten bits.
 pub fn spread_of(code: u16) -> u32
-    ensures { code < 1024 → result ≡ spread code }
+    ensures { result ≡ spread (code % 1024) }
 {
-    SPREAD[(code & 1023) as usize]
+    SPREAD[usize::from(code % 1024)]
 }

@@ -8,6 +8,7 @@ use crate::hash::GramHash;
 use crate::window::{Placed, WindowQueue};
 use crate::winnowing::Winnowing;
 use order::Order;
+use std::array;
 use std::marker::Model;
 
 // A list of codes that is read by place.
@@ -22,21 +23,15 @@ pub trait Codes {
         ensures { result ≡ slice_index (codes self.now) i };
 }
 
-// Codes that stand in a slice.
-#[derive(Clone, Copy)]
-pub struct CodeList<'a> {
-    pub all: &'a [u16],
-}
-
-impl Codes for CodeList<'_> {
-    ghost codes = { λ s. s.all.now };
+impl Codes for &[u16] {
+    ghost codes = { λ s. s.now };
 
     fn len(&self) -> usize {
-        self.all.len()
+        (*self).len()
     }
 
     fn code(&self, i: usize) -> u16 {
-        self.all.get(i).copied().unwrap_or(0)
+        self.get(i).copied().unwrap_or(0)
     }
 }
 
@@ -45,11 +40,8 @@ fn first_value<H: GramHash, C: Codes>(codes: &C, k: usize) -> H::Value
     requires { k ≤ 64 }
     ensures { k ≤ length (C.Codes.codes codes.now) → Gram (take k (C.Codes.codes codes.now)) → result ≡ H.GramHash.value (take k (C.Codes.codes codes.now)) }
 {
-    let mut gram = [0u16; 64];
-    for i in 0..k {
-        gram[i] = codes.code(i);
-    }
-    H::of(&gram[0..k])
+    let gram: [u16; 64] = array::from_fn(|i| codes.code(i));
+    H::of(&gram[..k])
 }
 
 // From the value of the gram at a place to that of the next, while there is one.

@@ -15,7 +15,7 @@ returns-clause-listed g c =
     let cs = c.args.codes.now in
     let k = c.in_ok-by.ensures.0 in
     let w = c.in_ok-by.ensures.1 in
-    let walk = c.new-walk.ensures.all ∙ ap₂ (λ k w. winnowed hash cmp k w cs) k w in
+    let walk = ◌∙◌ {b = winnowed hash cmp c.in_ok-by.by.k c.in_ok-by.by.w cs} c.new-walk.ensures.all (ap₂ (λ k w. winnowed hash cmp k w cs) k w) in
     let all = items_from_collect {E = Unit {0}} (Ok c.in_ok-collect.field-0) c.in_ok-collect.ensures.ran (YieldsList-from_first (λ x. x) (λ s. s) (winnowed hash cmp c.args.k c.args.w cs) walk) in
     let exact = winnowed_exact hash g.met.H.Value.Order.total c.args.k c.args.w (subst (λ w. 1 ≤ w) w c.in_ok-by.by.window) cs in
     record { all = all; exact = subst (λ l. ListsExactly nat_cmp (map (λ m. m.place) l) (Chosen cmp c.args.w (value_at hash c.args.k cs) (grams c.args.k cs))) (sym all) exact }

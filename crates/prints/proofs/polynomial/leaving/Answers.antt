@@ -1,6 +1,4 @@
-use Rattle.std.proofs.Common.{◌%◌, ◌<◌, map, get_or, ap, ◌∙◌, arith}
-use lib.Bits.{and_mask}
-use Rattle.std.specs.List.{range_with_len}
+use Rattle.std.proofs.Common.{◌%◌, ◌<◌, ◌∙◌, arith}
 use Rattle.std.proofs.lemmas.List.FromFn.{get_or-map-range_with_len}
 use Rattle.prints.proofs.Weights.{factor_at, at_factor}
 use Rattle.prints.proofs.polynomial.leaving.Goals as goal
@@ -9,4 +7,4 @@ use Rattle.prints.proofs.polynomial.leaving.Goals as goal
 pub returns : goal.returns
 returns c lo hi =
     let at : c.args.k % 64 < 64 = omega arith in
-    ap (λ i. get_or (map factor_at (range_with_len 0 64)) i 0) (and_mask c.args.k 6) ∙ get_or-map-range_with_len factor_at 0 64 (c.args.k % 64) (c.args.k % 64) 0 at (omega arith) ∙ at_factor c.args.k lo hi
+    get_or-map-range_with_len factor_at 0 64 (c.args.k % 64) (c.args.k % 64) 0 at (omega arith) ∙ at_factor c.args.k lo hi

@@ -1,18 +1,14 @@
-use Rattle.std.proofs.Common.{◌<◌, length, get_or, take, sym, ap, ◌∙◌, arith}
-use Rattle.std.proofs.lemmas.List.{take_more, take_all}
-use Rattle.prints.specs.Hashes.{polynomial}
+use Rattle.std.proofs.Common.{rules, ◌+◌, ◌*◌, ◌%◌, ◌∙◌}
+use borrow.Author.Tests.{tests}
+use Rattle.std.proofs.lemmas.Iterator.{YieldsList-from_slice}
+use Rattle.std.proofs.lemmas.Iterator.Consumers.{fold_from_yields_List}
+use Rattle.prints.specs.Grams.{Code}
+use Rattle.prints.specs.Hashes.{prime, polynomial}
+use Rattle.prints.proofs.Folds.{folds}
 use Rattle.prints.proofs.Weights.{polynomial_push}
 use Rattle.prints.proofs.polynomial.PolynomialGramHash.of.Goals as goal
 
-pub loop-c-preserved : goal.loop-c-preserved
-loop-c-preserved c =
-    let i = c.loop-c.c-index in
-    let cs = c.args.codes.now in
-    let in' : i < length cs = c.loop-c-test.true in
-    let grown = ap polynomial (take_more cs i 0 in') in
-    let e = polynomial_push (take i cs) (get_or cs i 0) in
-    let inv = c.loop-c.invariant in
-    simp (c.from.ensures, inv) (sym e ∙ sym grown)
-
 pub returns : goal.returns
-returns c g = c.loop-c.invariant ∙ ap polynomial (take_all c.loop-c.c-index c.args.codes.now (omega arith))
+returns c gram =
+    fold_from_yields_List _ (λ v c. (v * 1000 + c) % prime) 0 _ c.fold.ensures.ran (YieldsList-from_slice c.args.codes.now cc) (λ v x r q k. search (rules, tests))
+    ∙ folds Code polynomial (λ v c. (v * 1000 + c) % prime) (λ cs c _. polynomial_push cs c) c.args.codes.now gram.coded
