@@ -12,9 +12,8 @@ use crate::cutting::cut;
 use crate::lexeme::Lexeme;
 use crate::state::{Begun, Clike, Sort};
 use std::num::NonZeroUsize;
-use tokens::bytes::are_bytes;
 use tokens::source::Source;
-use tokens::token::{Cause, Class, Fault, LIMIT, Token, file_fault};
+use tokens::token::{Cause, Class, Fault, LIMIT, Token};
 
 // The code of the keyword with the number 0.
 const FIRST_KEYWORD: u16 = 256;
@@ -62,7 +61,6 @@ impl<'a> Clike<'a> {
         ensures chained { EndToEnd 0 (clike_left result) (length (text_read file.now)) }
         ensures once { CoversOnce (clike_left result) (length (text_read file.now)) }
     {
-        are_bytes(file);
         Clike {
             file,
             at: 0,
@@ -110,7 +108,7 @@ impl Clike<'_> {
         ensures at { self.new.at ≡ self.old.at }
         ensures unclosed { self.new.unclosed ≡ option_or self.old.unclosed (Some (file_fault OpenComment self.old.at)) }
     {
-        let fault = file_fault(Cause::OpenComment, self.at as u32);
+        let fault = Fault::in_file(Cause::OpenComment, self.at as u32);
         self.unclosed = self.unclosed.or(Some(fault));
     }
 
@@ -157,19 +155,17 @@ impl Source for Clike<'_> {
 
     ghost depth = { λ _. 0 };
 
-    fn lawful(&self) {
-        are_bytes(self.file);
-    }
+    fn lawful(&self) {}
 
     fn next(&mut self) -> Result<Option<Token>, Fault> {
         if self.file.len() > LIMIT {
-            return Err(file_fault(Cause::TooLong, 0));
+            return Err(Fault::in_file(Cause::TooLong, 0));
         }
         let Some(b) = self.file.get(self.at) else {
             return self.unclosed.map_or(Ok(None), Err);
         };
         if *b == 0 {
-            return Err(file_fault(Cause::ZeroByte, self.at as u32));
+            return Err(Fault::in_file(Cause::ZeroByte, self.at as u32));
         }
         let Some(begun) = self.begun else {
             return Ok(Some(self.begin()));

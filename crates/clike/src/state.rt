@@ -1,4 +1,5 @@
 // The state of a C-like source.
+ghost use Rattle.std.specs.Prelude.{ℕ, ◌≤◌, slice_index};
 use std::num::NonZeroUsize;
 use tokens::token::Fault;
 
@@ -28,4 +29,5 @@ pub struct Clike<'a> {
     pub at: usize,
     pub begun: Option<Begun>,
     pub unclosed: Option<Fault>,
+    ghost bytes: { (k : ℕ) → slice_index file.now k ≤ 255 },
 }

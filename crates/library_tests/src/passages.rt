@@ -145,8 +145,8 @@ macro_rules! two_made {
                 in $heap;
                 Token { code: $first, class: Class::Made, from: 0, to: 1 },
                 Token { code: $second, class: Class::Made, from: 1, to: 2 },
-            ]?,
-            at: 0,
+            ]?
+            .into_iter(),
             ending: None,
             depth: 0,
         }

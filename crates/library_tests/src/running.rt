@@ -103,7 +103,7 @@ fn tokens_are(rt: &impl Abort, tokens: &[Token], entries: &[[u32; 4]]) {
     for (token, want) in tokens.iter().zip(entries.iter()) {
         let got = [
             u32::from(token.code),
-            u32::from(token.class.number()),
+            u32::from(u8::from(token.class)),
             token.from,
             token.to,
         ];

@@ -42,5 +42,5 @@ returns-clause-placed c =
     let within = reads_within file at (omega (arith, ne)) in
     let size = text_length file at (omega (arith, ne)) in
     let short : length text ≤ limit = omega (arith, size, within.0, within.1) in
-    placed text at self.begun (text_plain file at c.are_bytes.ensures) short)
+    placed text at self.begun (text_plain file at self.bytes) short)
     (cases_eq (readable file at) 0)

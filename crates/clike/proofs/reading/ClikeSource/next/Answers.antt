@@ -35,7 +35,7 @@ returns-then-self-gt-LIMIT c =
     let self = c.args.self.now in
     let long = c.if-self-gt-LIMIT.true in
     let end = stops self _ (long_none self.file.now self.at long) (long_ends self.file.now self.at long) in
-    record { answer = ap Err c.file_fault.ensures ∙ sym end.answer; left = end.left; ends = refl; stays = refl }
+    record { answer = ap Err c.in_file.ensures ∙ sym end.answer; left = end.left; ends = refl; stays = refl }
 
 answered : (o : Option Fault) (r : Result (Option Token) Fault) → MatchOption o (r ≡ Ok None) (λ f. r ≡ Err f) → r ≡ first [] o
 answered None r e = e
@@ -55,7 +55,7 @@ returns-then-b-eq0 c =
     let inside : self.at < length self.file.now = grind arith in
     let is : get_or self.file.now self.at 0 ≡ 0 = grind arith in
     let end = stops self _ (zero_none self.file.now self.at short inside is) (zero_ends self.file.now self.at short inside is) in
-    record { answer = ap Err c.file_fault-then-b-eq0.ensures ∙ sym end.answer; left = end.left; ends = refl; stays = refl }
+    record { answer = ap Err c.in_file-then-b-eq0.ensures ∙ sym end.answer; left = end.left; ends = refl; stays = refl }
 
 pub returns : goal.returns
 returns c =
@@ -65,7 +65,7 @@ returns c =
     let b = c.in-Some-begun.begun in
     let xs = text_at file at in
     let class = sort_further b.sort in
-    let next : Clike = record { file = self.file; at = at + 1; begun = c.of-self.result; unclosed = self.unclosed } in
+    let next : Clike = record { file = self.file; at = at + 1; begun = c.of-self.result; unclosed = self.unclosed; bytes = self.bytes } in
     let within : at < length file = grind arith in
     let full : get_or file at 0 ≡ 0 → ⊥ = λ z. grind arith in
     let some : 0 < non_zero_usize_get b.left = b.left.ok in

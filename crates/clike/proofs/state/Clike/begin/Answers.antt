@@ -132,7 +132,7 @@ returns-in-Keyword c =
     let self = c.args.self.now in
     let file = self.file.now in
     let run = c.in-Keyword.run'.now in
-    let next : Clike = record { file = self.file; at = self.at + length run; begun = self.begun; unclosed = self.unclosed } in
+    let next : Clike = record { file = self.file; at = self.at + length run; begun = self.begun; unclosed = self.unclosed; bytes = self.bytes } in
     let g = begins self _ _ _ c.requires.byte.within c.requires.byte.short c.requires.some c.requires.new (take_rest file self.at) (ap seen c.in-Keyword.is) c.cut.ensures.first in
     let fits = (lexeme_at (text_at file self.at) self.at (keyword c.in-Keyword.number) run (inside self _ g) g.cut).fits in
     let size = text_length file self.at (some_read file self.at c.requires.byte.short c.requires.byte.within c.requires.some) in

@@ -1,4 +1,4 @@
-use Rattle.std.proofs.Common.{◌≡◌, ◌+◌, ◌≤◌, true, length, sym, ap, ◌∙◌, subst, zero-add, arith}
+use Rattle.std.proofs.Common.{◌≡◌, ◌+◌, ◌≤◌, true, length, sym, ap, ◌∙◌, subst, zero-add, arith, ℕ, get_or}
 use Rattle.std.specs.Option.{option_or}
 use Rattle.tokens.specs.Tokens.{limit}
 use Rattle.tokens.specs.Texts.{text_ending}
@@ -17,7 +17,8 @@ returns c =
     let file = c.args.file.now in
     let text = text_read file in
     let start = text_start file in
-    let whole : plain text ≡ true = ap plain (sym start) ∙ text_plain file 0 c.are_bytes.ensures in
+    let bytes : (k : ℕ) → get_or file k 0 ≤ 255 = λ k. let byte = c.type_inv.file k in omega (arith, byte.fits) in
+    let whole : plain text ≡ true = ap plain (sym start) ∙ text_plain file 0 bytes in
     let short : 0 + length text ≤ limit = omega (arith, text_short file) in
     let chain : EndToEnd 0 (clike_tokens text) (length text) = subst (EndToEnd 0 (clike_tokens text)) (zero-add (length text)) (chain_end_to_end 0 (0 + length text) (clike_tokens text) (chain_text 0 text whole short)) in
     let tokens : tokens_of 0 (lexemes (text_at file 0)) ≡ clike_tokens text = ap (λ xs. tokens_of 0 (lexemes xs)) start in
