@@ -1,8 +1,8 @@
 // One fingerprint of the reported file, met with fingerprints of other files.
-ghost use Rattle.std.specs.Prelude.{◌≡◌, ◌≤◌, length};
+ghost use Rattle.std.specs.Prelude.{◌≡◌, ◌+◌, ◌≤◌, length};
 ghost use Rattle.runs.specs.Shares.{SameGrams};
 ghost use Rattle.model.specs.Files.{tokens_of};
-ghost use Rattle.model.specs.Passages.{passage, grown};
+ghost use Rattle.model.specs.Passages.{passage, grown, span};
 ghost use Rattle.pairing.specs.Groups.{with_each};
 ghost use Rattle.pairing.specs.Tallies.{Ready, Counted};
 ghost use Rattle.pairing.specs.Scopes.{files, held_files};
@@ -15,8 +15,7 @@ use model::passage::{ByteSpan, Passage};
 use order::Order;
 use ordered::edit::insert;
 use ordered::insertion::Insertion;
-use runs::gram::same_grams;
-use runs::longest::grow;
+use runs::longest::Alignment;
 use tokens::token::Token;
 
 // The tokens of the file `next`, where `tokens` are those of `file`: only another file is looked up.
@@ -31,27 +30,32 @@ fn tokens_next<'a>(held: HeldFiles<'a>, tokens: &'a [Token], file: u16, next: u1
     }
 }
 
-// The passage around the equal grams at i of the reported file and at j of the file of number `other`.
-fn passage_around(other: u16, xs: &[Token], i: usize, ys: &[Token], j: usize, k: usize) -> Passage
-    requires some { 1 ≤ k }
-    requires few { (length xs.now ≤ 1048576) × (length ys.now ≤ 1048576) }
-    requires same { SameGrams k xs.now ys.now i j }
-    ensures { result ≡ passage other xs.now ys.now (grown k xs.now ys.now i j) }
+// The bytes of the `len` tokens from place `at` on.
+fn span(tokens: &[Token], at: usize, len: usize) -> ByteSpan
+    requires { (1 ≤ len) × (at + len ≤ length tokens.now) }
+    ensures { result ≡ span tokens.now at len }
 {
-    let run = grow(xs, i, ys, j, k);
+    ByteSpan {
+        from: tokens[at].from,
+        to: tokens[at + len - 1].to,
+    }
+}
+
+// The passage around equal grams, the first of the reported file and the second of the file of number `other`.
+fn passage_around(other: u16, grams: Alignment<'_>, k: usize) -> Passage
+    requires some { 1 ≤ k }
+    requires few { (length grams.xs.now ≤ 1048576) × (length grams.ys.now ≤ 1048576) }
+    requires same { SameGrams k grams.xs.now grams.ys.now grams.i grams.j }
+    ensures { result ≡ passage other grams.entry.xs.now grams.entry.ys.now (grown k grams.entry.xs.now grams.entry.ys.now grams.entry.i grams.entry.j) }
+{
+    let run = grams.grow(k);
     Passage {
         other,
         left: run.left as u32,
         right: run.right as u32,
         len: run.len as u32,
-        here: ByteSpan {
-            from: xs[run.left].from,
-            to: xs[run.left + run.len - 1].to,
-        },
-        there: ByteSpan {
-            from: ys[run.right].from,
-            to: ys[run.right + run.len - 1].to,
-        },
+        here: span(grams.xs, run.left, run.len),
+        there: span(grams.ys, run.right, run.len),
     }
 }
 
@@ -75,12 +79,17 @@ pub fn meet<V: Order>(
         other = tokens_next(scope.held, other, file, b.file);
         file = b.file;
         counts.pairs = counts.pairs.saturating_add(1);
-        let j = b.place as usize;
-        if !same_grams(scope.own, i, other, j, scope.k) {
+        let grams = Alignment {
+            xs: scope.own,
+            i,
+            ys: other,
+            j: b.place as usize,
+        };
+        if !grams.same_grams(scope.k) {
             counts.differing = counts.differing.saturating_add(1);
             continue;
         }
-        let found = passage_around(file, scope.own, i, other, j, scope.k);
+        let found = passage_around(file, grams, scope.k);
         match insert(list, counts.passages, found) {
             Insertion::At(_) => counts.passages += 1,
             Insertion::Present(_) => {}
