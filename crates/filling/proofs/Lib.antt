@@ -1,4 +1,3 @@
 pub mod Surgery
 pub mod Writes
 pub mod Inflow
-pub mod Outflow

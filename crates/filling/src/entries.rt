@@ -3,26 +3,14 @@ ghost use Rattle.std.specs.Prelude.{◌≡◌, ◌+◌, ◌-◌, ◌≤◌, ◌+
 ghost use Rattle.runs.specs.Shares.{unused};
 
 use model::table::Entry;
-use tokens::token::{Class, Token};
-
-// A token of no file.
-pub fn unused_token() -> Token
-    ensures { result ≡ unused }
-{
-    Token {
-        code: 0,
-        class: Class::Unused,
-        from: 0,
-        to: 0,
-    }
-}
+use tokens::token::Token;
 
 // Leaves no token from `from` on.
 pub fn wipe(tokens: &mut [Token], from: usize)
     requires { from ≤ length tokens.old }
     ensures { tokens.new ≡ take from tokens.old ++ replicate (length tokens.old - from) unused }
 {
-    tokens[from..].fill(unused_token());
+    tokens[from..].fill(Token::default());
 }
 
 // Moves the entries from `at + len` up to, without, `end` down by `len`.

@@ -9,50 +9,43 @@ use model::fingerprint::Fingerprint;
 use prints::hash::GramHash;
 use prints::walk::Winnow;
 use prints::window::Placed;
+use prints::winnowing::Winnowing;
 use runs::codes::TokenCodes;
 use tokens::token::Token;
 
-// How many places are chosen: grams of k tokens, windows of w values.
+// How many places are chosen.
 pub fn count_prints<H: GramHash>(
     tokens: &[Token],
-    k: usize,
-    w: usize,
+    by: Winnowing,
     work: &mut [Placed<H::Value>],
 ) -> usize
-    requires gram { (1 ≤ k) × (k ≤ 64) }
-    requires window { (1 ≤ w) × (w ≤ length work.old) }
+    requires room { by.w ≤ length work.old }
     requires coded { Coded (codes tokens.now) }
-    ensures { result ≡ length (winnowed H.GramHash.value H.Value.Ord.cmp k w (codes tokens.now)) }
+    ensures { result ≡ length (winnowed H.GramHash.value H.Value.Ord.cmp by.k by.w (codes tokens.now)) }
 {
-    Winnow::<H, TokenCodes<'_>>::new(TokenCodes { all: tokens }, k, w, work).count()
+    Winnow::<H, TokenCodes<'_>>::new(TokenCodes { all: tokens }, by, work).count()
 }
 
-// Writes a fingerprint of file `number` for each chosen place into `free`, from its first entry on, and answers how many.
+// Writes a fingerprint of file `number` for each chosen place into `free`, from its first entry on.
 pub fn write_prints<H: GramHash>(
     free: &mut [Fingerprint<H::Value>],
     number: u16,
     tokens: &[Token],
-    k: usize,
-    w: usize,
+    by: Winnowing,
     work: &mut [Placed<H::Value>],
-) -> usize
-    requires gram { (1 ≤ k) × (k ≤ 64) }
-    requires window { (1 ≤ w) × (w ≤ length work.old) }
+)
+    requires room { by.w ≤ length work.old }
     requires coded { Coded (codes tokens.now) }
-    requires room { length (winnowed H.GramHash.value H.Value.Ord.cmp k w (codes tokens.now)) ≤ length free.old }
+    requires fits { length (winnowed H.GramHash.value H.Value.Ord.cmp by.k by.w (codes tokens.now)) ≤ length free.old }
     requires size { length tokens.now ≤ 1048576 }
-    ensures count { result ≡ length (winnowed H.GramHash.value H.Value.Ord.cmp k w (codes tokens.now)) }
-    ensures after { free.new ≡ map (filed number) (winnowed H.GramHash.value H.Value.Ord.cmp k w (codes tokens.now)) ++ drop (length (winnowed H.GramHash.value H.Value.Ord.cmp k w (codes tokens.now))) free.old }
+    ensures { free.new ≡ map (filed number) (winnowed H.GramHash.value H.Value.Ord.cmp by.k by.w (codes tokens.now)) ++ drop (length (winnowed H.GramHash.value H.Value.Ord.cmp by.k by.w (codes tokens.now))) free.old }
 {
-    let mut walk = Winnow::<H, TokenCodes<'_>>::new(TokenCodes { all: tokens }, k, w, work);
-    let mut n = 0;
-    while let Some(found) = walk.next() {
+    let walk = Winnow::<H, TokenCodes<'_>>::new(TokenCodes { all: tokens }, by, work);
+    for (n, found) in walk.enumerate() {
         free[n] = Fingerprint {
             value: found.value,
             file: number,
             place: found.place as u32,
         };
-        n += 1;
     }
-    n
 }

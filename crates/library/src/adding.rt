@@ -19,6 +19,7 @@ use model::table::{Entry, find};
 use ordered::batch::insert_all;
 use prints::hash::GramHash;
 use prints::window::Placed;
+use prints::winnowing::Winnowing;
 use tokens::source::Source;
 use tokens::token::Token;
 
@@ -29,22 +30,20 @@ fn index_file<H: GramHash>(
     used: usize,
     number: u16,
     tokens: &[Token],
-    k: usize,
-    w: usize,
+    by: Winnowing,
     work: &mut [Placed<H::Value>],
 ) -> Result<Filed, Refusal>
-    requires gram { (1 ≤ k) × (k ≤ 64) }
-    requires window { (1 ≤ w) × (w ≤ length work.old) }
+    requires room { by.w ≤ length work.old }
     requires coded { Coded (codes tokens.now) }
     requires size { length tokens.now ≤ 1048576 }
     requires within { used ≤ length index.old }
-    ensures { Indexed H.Value.Ord.cmp (winnowed H.GramHash.value H.Value.Ord.cmp k w (codes tokens.now)) number used index.old index.new result }
+    ensures { Indexed H.Value.Ord.cmp (winnowed H.GramHash.value H.Value.Ord.cmp by.k by.w (codes tokens.now)) number used index.old index.new result }
 {
-    let places = count_prints::<H>(tokens, k, w, work);
+    let places = count_prints::<H>(tokens, by, work);
     if index.len() - used < places {
         return Err(Refusal::plain(Reason::IndexFull));
     }
-    write_prints::<H>(&mut index[used..], number, tokens, k, w, work);
+    write_prints::<H>(&mut index[used..], number, tokens, by, work);
     let used = insert_all(index, used, places);
     Ok(Filed { places, used })
 }
@@ -58,18 +57,16 @@ fn take_in<H: GramHash, S: Source + Drop>(
     prints: usize,
     number: u16,
     source: S,
-    k: usize,
-    w: usize,
+    by: Winnowing,
     work: &mut [Placed<H::Value>],
 ) -> Result<Taken, Refusal>
-    requires gram { (1 ≤ k) × (k ≤ 64) }
-    requires window { (1 ≤ w) × (w ≤ length work.old) }
+    requires room { by.w ≤ length work.old }
     requires size { length tokens.old ≤ 1048576 }
     requires within { (used ≤ length tokens.old) × (prints ≤ length index.old) }
-    ensures { TakenIn H.Value.Ord.cmp number (S.Source.tokens source) (S.Source.ending source) (winnowed H.GramHash.value H.Value.Ord.cmp k w (codes (S.Source.tokens source))) used tokens.old tokens.new prints index.old index.new result }
+    ensures { TakenIn H.Value.Ord.cmp number (S.Source.tokens source) (S.Source.ending source) (winnowed H.GramHash.value H.Value.Ord.cmp by.k by.w (codes (S.Source.tokens source))) used tokens.old tokens.new prints index.old index.new result }
 {
     let len = fill(&mut tokens[used..], source)?;
-    let filed = index_file::<H>(index, prints, number, &tokens[used..used + len], k, w, work)?;
+    let filed = index_file::<H>(index, prints, number, &tokens[used..used + len], by, work)?;
     Ok(Taken {
         len,
         places: filed.places,
@@ -108,9 +105,8 @@ impl<H: GramHash> Store<'_, '_, H> {
         ensures step { Step H.GramHash.value H.Value.Ord.cmp (state self.old) (state self.new) (add number (S.Source.tokens source) (S.Source.ending source) (length work.old)) (added result) }
         ensures work { WorkKept result work.old work.new }
     {
-        let k = self.plan.k;
-        let w = self.plan.t - k + 1;
-        self.admits(number, w, work.len())?;
+        let by = self.plan.winnowing();
+        self.admits(number, by.w, work.len())?;
         let used = self.used;
         let prints = self.prints;
         match take_in::<H, S>(
@@ -120,8 +116,7 @@ impl<H: GramHash> Store<'_, '_, H> {
             prints,
             number,
             source,
-            k,
-            w,
+            by,
             work,
         ) {
             Err(refusal) => {

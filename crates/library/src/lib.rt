@@ -6,7 +6,6 @@ mod filed;
 mod holding;
 pub mod library;
 pub mod plan;
-pub mod planning;
 mod removing;
 mod reporting;
 pub mod running;

@@ -1,6 +1,9 @@
 // What a library is opened with.
-ghost use Rattle.std.specs.Prelude.{◌≤◌};
+ghost use Rattle.std.specs.Prelude.{◌≡◌, ◌+◌, ◌-◌, ◌≤◌};
+ghost use Rattle.std.specs.Result.{MatchResult};
 
+use model::refusal::{Reason, Refusal};
+use prints::winnowing::Winnowing;
 use std::marker::PhantomData;
 
 // A hash, known by its type, the length of its grams, and the length from which no shared run is missed.
@@ -13,4 +16,36 @@ pub struct Plan<H> {
     ghost high: { k ≤ 64 },
     ghost least: { k ≤ t },
     ghost most: { t ≤ 256 },
+}
+
+impl<H> Plan<H> {
+    ghost use Rattle.library.specs.Plans.{Planned, Unplanned};
+
+    // Refuses a k that is not 1 to 64, and then a t that is not k to 256.
+    pub fn new(k: usize, t: usize) -> Result<Plan<H>, Refusal>
+        ensures { MatchResult result (Planned k t) (Unplanned k t) }
+    {
+        if k < 1 || k > 64 {
+            return Err(Refusal::plain(Reason::GramLength));
+        }
+        if t < k || t > 256 {
+            return Err(Refusal::plain(Reason::RunLength));
+        }
+        Ok(Plan {
+            k,
+            t,
+            hash: PhantomData,
+        })
+    }
+
+    // Windows are as long that a run of t tokens fills one.
+    pub(crate) fn winnowing(&self) -> Winnowing
+        ensures gram { result.k ≡ self.now.k }
+        ensures window { result.w ≡ self.now.t - self.now.k + 1 }
+    {
+        Winnowing {
+            k: self.k,
+            w: self.t - self.k + 1,
+        }
+    }
 }

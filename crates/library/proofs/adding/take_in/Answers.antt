@@ -13,7 +13,7 @@ index_file-requires g c =
     let e = slice_is _ _ c.args.used c.args.tokens.now c.fill.new.free c.fill.result c.requires.within.0 c.fill.ensures c.in_ok-len.len c.in_ok-len.was in
     let l = read_few _ _ c.args.used c.args.tokens.now c.fill.new.free c.fill.result c.requires.within.0 c.fill.ensures c.in_ok-len.len c.in_ok-len.was in
     let z = c.requires.size in
-    record { gram = c.requires.gram; window = c.requires.window; coded = rw e c.fill.ensures.coded; size = rw e (omega arith); within = c.requires.within.1 }
+    record { room = c.requires.room; coded = rw e c.fill.ensures.coded; size = rw e (omega arith); within = c.requires.within.1 }
 
 pub returns-in_err-filed : goal.returns-in_err-filed
 returns-in_err-filed g c =
