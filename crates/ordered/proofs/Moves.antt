@@ -52,11 +52,6 @@ module _ {X : Type 0} (xs : List X) (n i : ℕ) where
       ∙ ap (λ k. drop k xs) same
 
 module _ {X : Type 0} (xs : List X) (from count to : ℕ) where
-  pub moved_is : paste xs to (drop from xs) (from + count - from) ≡ moved xs from count to
-  moved_is =
-      let same : from + count - from ≡ count = omega arith in
-      ap (λ k. take to xs ++ take k (drop from xs) ++ drop (to + k) xs) same ∙ append_assoc (take to xs) (take count (drop from xs)) (drop (to + count) xs)
-
   pub moved_none : from ≡ to → xs ≡ moved xs from count to
   moved_none e =
       sym (take-append-drop to xs)

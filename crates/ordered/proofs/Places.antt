@@ -46,19 +46,12 @@ pub record Around {X : Type 0} (test : X → Bool) (xs : List X) (low high : ℕ
   pub last : 0 < low → (d : X) → test (get_or xs (low - 1) d) ≡ true
   pub next : high < length xs → (d : X) → test (get_or xs high d) ≡ false
 
-module _ {X : Type 0} (test : X → Bool) (xs : List X) where
-  pub around_none : Around test xs 0 (length xs)
-  around_none = record { last = λ h. absurd (omega arith); next = λ h. absurd (omega arith) }
+module _ {X : Type 0} (test : X → Bool) (xs : List X) (low mid high : ℕ) (x : X) (h : Around test xs low high) (lt : mid < length xs) (e : x ≡ get_or xs mid x) where
+  pub around_low : test x ≡ true → Around test xs (mid + 1) high
+  around_low t = record { last = λ _ d. let same : mid + 1 - 1 ≡ mid = omega arith in let r = get_or_read xs mid x lt e d in cc; next = h.next }
 
-  module _ (low mid high : ℕ) (x : X) (h : Around test xs low high) (lt : mid < length xs) (e : x ≡ get_or xs mid x) where
-    pub around_low : test x ≡ true → Around test xs (mid + 1) high
-    around_low t = record { last = λ _ d. let same : mid + 1 - 1 ≡ mid = omega arith in let r = get_or_read xs mid x lt e d in cc; next = h.next }
-
-    pub around_high : test x ≡ false → Around test xs low mid
-    around_high t = record { last = h.last; next = λ _ d. let r = get_or_read xs mid x lt e d in cc }
-
-  pub cut_between : (low high : ℕ) → low ≤ high → high ≤ low → high ≤ length xs → Around test xs low high → Cut test xs low
-  cut_between low high f g le h = let same : low ≡ high = omega arith in record { within = omega arith; last = h.last; next = λ lt d. let e = h.next (omega arith) d in cc }
+  pub around_high : test x ≡ false → Around test xs low mid
+  around_high t = record { last = h.last; next = λ _ d. let r = get_or_read xs mid x lt e d in cc }
 
 some : {X P : Type 0} (ys : List X) → (ys ≡ [] → P) → (X → P) → P
 some [] f g = f refl

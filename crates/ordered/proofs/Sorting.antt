@@ -1,9 +1,9 @@
 -- A batch sorted by halves, and taken into a list. Assumes nothing.
-use Rattle.std.proofs.Common.{◌≡◌, ℕ, ◌+◌, ◌-◌, ◌<◌, ◌≤◌, ◌⊎◌, List, [], ◌∷◌, ◌++◌, length, get_or, take, drop, set, Ordering, sym, refl, ap, ◌∙◌, subst, ap₂, inl, inr, ⊎_elim, arith}
+use Rattle.std.proofs.Common.{◌≡◌, ℕ, ◌+◌, ◌-◌, ◌<◌, ◌≤◌, ◌⊎◌, List, [], ◌∷◌, ◌++◌, length, get_or, take, drop, set, Ordering, sym, ap, ◌∙◌, subst, ap₂, inl, inr, ⊎_elim, arith}
 use Rattle.std.proofs.lemmas.List.{length-drop, length-take-le, length-append, take_more, take_more_set, take-set, drop-set-lt, take-take, take-append-le, take_at, drop_at, drop-drop, drop-take, get_or-drop}
 use Rattle.order.specs.Listed.{In, Rising, ListsExactly}
 use Rattle.order.proofs.Joins.{append_in, in_left, in_right}
-use Rattle.ordered.specs.Gathered.{moved, Joined, Grown, Gathered, Sorted, TakenIn, AllIn}
+use Rattle.ordered.specs.Gathered.{moved, Joined, Grown, Sorted, TakenIn, AllIn}
 use Rattle.ordered.proofs.Moves.{moved_front, moved_past}
 use Rattle.ordered.proofs.Joining.{exactly_as, take_sum, part_same, sum_in, in_sum, joined_as}
 
@@ -12,13 +12,6 @@ pub record Gathering {X : Type 0} (cmp : X → X → Ordering) (before now' : Li
   pub fewer : count ≤ k
   pub rest : drop k now' ≡ drop k before
   pub lists : ListsExactly cmp (take count now') (λ z. In z (take k before))
-
-pub gathering_none : {X : Type 0} (cmp : X → X → Ordering) (xs : List X) → Gathering cmp xs xs 0 0
-gathering_none cmp xs = record {
-  fewer = omega arith;
-  rest = refl;
-  lists = record { rises = tt; only = λ z m. m; every = λ z m. m };
-}
 
 same_place : {X : Type 0} (k : ℕ) (xs ys : List X) (d : X) → drop k xs ≡ drop k ys → get_or xs k d ≡ get_or ys k d
 same_place k xs ys d e =
@@ -46,13 +39,6 @@ module _ {X : Type 0} {cmp : X → X → Ordering} (before xs ys : List X) (k co
             (λ z m. subst (In z) (sym new) (⊎_elim (λ a. in_left (take count xs) (x ∷ []) z (h.lists.every z a)) (in_right (take count xs) (x ∷ []) z) (append_in (take k before) (x ∷ []) z (subst (In z) old m))))
             (p.lists (subst (Rising cmp) (sym front) h.lists.rises));
       }
-
-pub gathered : {X : Type 0} {cmp : X → X → Ordering} (before xs : List X) (k n count : ℕ) → k ≡ n → Gathering cmp before xs k count → Gathered cmp before xs n count
-gathered {X} {cmp} before xs k n count e h =
-    subst (λ m. Gathered cmp before xs m count) e record { fewer = h.fewer; rest = h.rest; lists = h.lists }
-
-pub sorted_few : {X : Type 0} {cmp : X → X → Ordering} (before after : List X) (n at r : ℕ) → Gathered cmp before after n r → Sorted cmp before after n at r
-sorted_few before after n at r h = record { fewer = h.fewer; rest = ap (take (at - n)) h.rest; lists = h.lists }
 
 -- xs is the slice at the call, xs₁ after the sort of the first half, D what of it stands from the second half on, ys that after its sort,
 -- xs₂ both, xs₃ with the gap closed, and xs₄ after the join

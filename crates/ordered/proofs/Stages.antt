@@ -5,7 +5,7 @@ use Rattle.order.specs.Total.{TotalOrder}
 use Rattle.order.specs.Listed.{Rising, ListsExactly}
 use Rattle.ordered.specs.Gathered.{moved, InEither, Merged}
 use Rattle.ordered.proofs.Moves.{moved_front, moved_past, moved_length}
-use Rattle.ordered.proofs.Merging.{Merging, merging_less, merging_greater, merging_equal, merging_left_done, merging_swap, merging_none}
+use Rattle.ordered.proofs.Merging.{Merging, merging_less, merging_greater, merging_equal, merging_left_done, merging_swap}
 
 abbrev pub Stage : {X : Type 0} (cmp : X → X → Ordering) (P : X → Type 0) (xs : List X) (end at i j w : ℕ) → Type 0
 Stage cmp P xs end at i j w = Merging cmp P (take i xs) (take j (drop at xs)) (take (end - w) (drop w xs))
@@ -113,20 +113,6 @@ pub record Halfway {X : Type 0} (cmp : X → X → Ordering) (before now' : List
   pub below : w ≤ a + b
   pub rest : drop (a + b) now' ≡ drop (a + b) before
   pub stage : Rising cmp (take a before) → Rising cmp (take b (drop at before)) → Stage cmp (InEither before a b at) now' (a + b) at i j w
-
-pub halfway_none : {X : Type 0} (cmp : X → X → Ordering) (xs : List X) (a b at : ℕ) → a + b ≤ at → at + b ≤ length xs → Halfway cmp xs xs a b at a b (a + b)
-halfway_none cmp xs a b at h k = record {
-  fits = (h, k);
-  fewer_left = omega arith;
-  fewer_right = omega arith;
-  room = omega arith;
-  below = omega arith;
-  rest = refl;
-  stage = λ l r.
-      let z : a + b - (a + b) ≡ 0 = omega arith in
-      subst (λ n. Merging cmp (InEither xs a b at) (take a xs) (take b (drop at xs)) (take n (drop (a + b) xs))) (sym z)
-      (merging_none (InEither xs a b at) (take a xs) (take b (drop at xs)) l r (λ _ m. m) (λ _ m. m));
-}
 
 module _ {X : Type 0} {cmp : X → X → Ordering} (o : TotalOrder cmp) (before xs : List X) (a b at i j w : ℕ) (x y : X) (li : 0 < i) (lj : 0 < j) (xe : x ≡ get_or xs (i - 1) x) (ye : y ≡ get_or xs (at + j - 1) y) (h : Halfway cmp before xs a b at i j w) where
   keeps_rest : (v : X) → drop (a + b) (set xs (w - 1) v) ≡ drop (a + b) before

@@ -43,7 +43,7 @@ fn write_larger<T: Order>(xs: &mut [T], w: usize, x: T, y: T) -> Ordering
 }
 
 // Merges the first a records with b others that stand at `at` and on, largest first, so that no record is written over before it is read.
-// Of two equal ones one is kept.
+// Of two equal ones one is kept. By places and no iterator, since each comparison says in which list the next step is.
 fn merge<T: Order>(xs: &mut [T], a: usize, b: usize, at: usize) -> usize
     requires apart { a + b ≤ at }
     requires within { at + b ≤ length xs.old }
@@ -141,7 +141,7 @@ fn join<T: Order>(xs: &mut [T], a: usize, b: usize, at: usize) -> usize
 // Below this many records a batch is sorted by putting in one after the other.
 const FEW: usize = 16;
 
-// The first n records, one after the other, become a rising list.
+// The first n records, one after the other, become a rising list. By places, since the slice that is read is the one that is written.
 fn insert_each<T: Order>(xs: &mut [T], n: usize) -> usize
     requires { n ≤ length xs.old }
     ensures { Gathered T.Ord.cmp xs.old xs.new n result }

@@ -65,7 +65,7 @@ pub fn remove<T: Order>(list: &mut [T], n: usize, x: T) -> Option<usize>
     }
 }
 
-// Takes out of the first n all that the test names, in one pass, and answers how many are left.
+// Takes out of the first n all that the test names, in one pass, and answers how many are left. By hand, since only a `Vec` has `retain`.
 pub fn remove_all<T: Order, F: FnMut(&T) -> bool>(list: &mut [T], n: usize, mut test: F) -> usize
     requires within { n ≤ length list.old }
     requires callable { F.IsAlwaysCallable test }

@@ -1,11 +1,8 @@
 use Rattle.std.proofs.Common.{◌-◌, ◌/◌, ◌++◌, length, take, drop, arith}
 use Rattle.std.proofs.lemmas.List.{take_rest}
 use Rattle.ordered.proofs.Joining.{lent_rest}
-use Rattle.ordered.proofs.Sorting.{sorted_few, sorted_halves}
+use Rattle.ordered.proofs.Sorting.{sorted_halves}
 use Rattle.ordered.proofs.batch.+sort.Goals as goal
-
-pub returns-then-n-le-FEW : goal.returns-then-n-le-FEW
-returns-then-n-le-FEW g t c = sorted_few c.args.xs.now c.insert_each.new.xs c.args.n c.args.at c.insert_each.result c.insert_each.ensures
 
 pub returns : goal.returns
 returns g t c =

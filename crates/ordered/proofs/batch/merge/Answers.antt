@@ -1,10 +1,7 @@
 use Rattle.std.proofs.Common.{sym, inl, inr, arith}
-use Rattle.ordered.proofs.Stages.{halfway_none, halfway_less, halfway_equal, halfway_greater, halfway_as, halfway_all}
+use Rattle.ordered.proofs.Stages.{halfway_less, halfway_equal, halfway_greater, halfway_as, halfway_all}
 use Rattle.ordered.proofs.batch.merge.Goals as goal
 use Rattle.ordered.proofs.batch.merge.Goals.{then-loop-i-test+else-j-gt0, else-loop-i-test}
-
-pub loop-i-init : goal.loop-i-init
-loop-i-init g c = halfway_none g.T.Ord.cmp c.args.xs.now c.args.a c.args.b c.args.at c.requires.apart c.requires.within
 
 pub loop-i-preserved-in-Less : goal.loop-i-preserved-in-Less
 loop-i-preserved-in-Less g c =

@@ -1,10 +1,7 @@
 use Rattle.std.proofs.Common.{◌+◌, ◌-◌, ◌/◌, sym, ◌∙◌, of_calls, arith}
-use Rattle.ordered.proofs.Places.{around_none, around_low, around_high, cut_between}
+use Rattle.ordered.proofs.Places.{around_low, around_high}
 use Rattle.ordered.proofs.Edits.{answers_next}
 use Rattle.ordered.proofs.search.cut.Goals as goal
-
-pub loop-low-init : goal.loop-low-init
-loop-low-init g c = (search of_calls, omega arith, omega arith, λ before by. (by, around_none before c.args.list.now))
 
 pub loop-low-preserved-then-test : goal.loop-low-preserved-then-test
 loop-low-preserved-then-test g c =
@@ -29,6 +26,3 @@ loop-low-preserved g c =
           let next = answers_next g.F.FnMut _ _ _ _ c.test.ensures f.0 in
           (next.1, around_high before c.args.list.now c.loop-low.low mid c.loop-low.high c.index-list-mid.result f.1 (omega arith) c.index-list-mid.is (sym next.0 ∙ c.if-test.false)),
     )
-
-pub returns : goal.returns
-returns g c before by = cut_between before c.args.list.now c.loop-low.low c.loop-low.high (omega arith) (omega arith) (omega arith) (c.loop-low.invariant.3 before by).1
