@@ -26,7 +26,7 @@ pub struct WindowQueue<'a, V> {
     ghost room: { taken < length slots.now },
 }
 
-// Of two values the smaller, and the later of two equal ones.
+// Of two values the smaller, and the later of two equal ones. Spelled out, since `min_by` keeps the first of equals.
 fn better<V: Order>(earlier: Placed<V>, later: Placed<V>) -> Placed<V>
     ensures { result ≡ better_of V.Ord.cmp earlier later }
 {

@@ -1,13 +1,7 @@
 use Rattle.std.proofs.Common.{◌≡◌, suc, ◌∷◌, length, ap, ◌∙◌, arith}
-use Rattle.std.proofs.lemmas.Nat.{mul-le}
 use Rattle.prints.specs.Hashes.{polynomial}
 use Rattle.prints.proofs.Weights.{factor, polynomial_roll}
 use Rattle.prints.proofs.polynomial.PolynomialGramHash.roll.Goals as goal
-
-pub overflow_add-result-2 : goal.overflow_add-result-2
-overflow_add-result-2 c =
-    let few = mul-le c.from.result c.from-2.result 65535 4294967295 (omega arith) (omega arith) in
-    record { fits = omega arith }
 
 pub returns : goal.returns
 returns c mid gram code size is =

@@ -1,12 +1,6 @@
-use Rattle.std.proofs.Common.{length, ap, sym, arith}
+use Rattle.std.proofs.Common.{length, ap, arith}
 use Rattle.prints.proofs.Onward.{onward_early, onward_again, onward_found, onward_ends, first_left, none_left, ends_empty, place_inside}
 use Rattle.prints.proofs.walk.WinnowIterator.next.Goals as goal
-
-pub loop-here-init : goal.loop-here-init
-loop-here-init g c = record { walking = c.self.invariant; left = sym c.self.view_is }
-
-pub next-requires : goal.next-requires
-next-requires g c = c.loop-here.invariant.walking.going
 
 pub overflow_add-self : goal.overflow_add-self
 overflow_add-self g c =
