@@ -1,49 +1,25 @@
--- The digits of a number, and of its front.
-use Rattle.std.proofs.Common.{◌≡◌, ℕ, ◌+◌, ◌-◌, ◌/◌, ◌%◌, ◌^◌, ◌<◌, ◌≤◌, true, cond, List, [], ◌∷◌, ◌++◌, length, get_or, take, replicate, is_ok, IsErrAnd, Ok, Err, decimal, Result, sym, ap, ◌∙◌}
-use Rattle.std.specs.List.{flat_map}
-use Rattle.std.proofs.lemmas.Result.{err_from_is_err_and}
-use Rattle.std.proofs.lemmas.Bool.{false≢true}
-use Rattle.std.proofs.lemmas.Fmt.{decimal_digit, decimal_step}
-use Rattle.std.proofs.lemmas.List.{length_push, append_assoc, replicate_more, take_at, take_all, take_more, flat_map_more}
-use Rattle.columns.specs.Columns.{right, row}
+-- A number as `{n:>width$}` writes it.
+use Rattle.std.proofs.Common.{◌≡◌, ℕ, zero, suc, ◌-◌, ◌^◌, false, not, ◌&&◌, List, [], ◌∷◌, ◌++◌, length, replicate, decimal, ◌==◌, refl, ap, ap₂, ◌∙◌, arith}
+use Rattle.std.specs.List.{repeat}
+use Rattle.std.specs.Fmt.{format_spec, is_bare_number, styled_decimal, padded_integral, char_count}
+use Rattle.std.proofs.lemmas.List.{append-nil}
+use Rattle.std.proofs.lemmas.Bool.{cond-false, and_left}
+use Rattle.std.proofs.Math.Dec.{eqb-suc-zero}
+use Rattle.columns.specs.Columns.{right}
 
-pub length_digit : (n : ℕ) → n < 10 → length (decimal n) ≡ 1
-length_digit n h = ap length (decimal_digit n h)
+blanks : (k : ℕ) → repeat {A = ℕ} k (32 ∷ []) ≡ replicate k 32
+blanks zero = refl
+blanks (suc k) = ap (λ (xs : List ℕ). 32 ∷ xs) (blanks k)
 
-pub length_step : (n : ℕ) → 10 ≤ n → n < 2 ^ 64 → length (decimal n) ≡ length (decimal (n / 10)) + 1
-length_step n h fits = ap length (decimal_step n h fits) ∙ length_push (decimal (n / 10)) (48 + n % 10)
+-- around it no sign, no prefix and no zeros, and behind the digits no fill
+filled : (k m : ℕ) (ds : List ℕ) → m ≡ 0 → repeat {A = ℕ} k (32 ∷ []) ++ [] ++ [] ++ [] ++ (ds ++ repeat {A = ℕ} m (32 ∷ [])) ≡ replicate k 32 ++ ds
+filled k m ds e = ap₂ ◌++◌ (append-nil _ ∙ append-nil _ ∙ append-nil _ ∙ blanks k) (ap (λ i. ds ++ repeat {A = ℕ} i (32 ∷ [])) e ∙ append-nil ds)
 
--- one blank more
-pub pad_more : (old now next : List ℕ) (k m : ℕ) → now ≡ old ++ replicate k 32 → next ≡ now ++ 32 ∷ [] → k + 1 ≡ m → next ≡ old ++ replicate m 32
-pad_more old now next k m e f h =
-    f ∙ ap (λ xs. xs ++ 32 ∷ []) e ∙ append_assoc old (replicate k 32) (32 ∷ []) ∙ ap (λ xs. old ++ xs) (replicate_more k 32 ∙ ap (λ n. replicate n 32) h)
-
--- the blanks, and then the digits
-pub pad_all : (start old now next : List ℕ) (n k width : ℕ) → old ≡ start → now ≡ old ++ replicate k 32 → next ≡ now ++ decimal n → k ≡ width - length (decimal n) → next ≡ start ++ right width n
-pad_all start old now next n k width s e f h =
-    f ∙ ap (λ xs. xs ++ decimal n) (e ∙ ap (λ xs. xs ++ replicate k 32) s) ∙ append_assoc start (replicate k 32) (decimal n) ∙ ap (λ m. start ++ (replicate m 32 ++ decimal n)) h
-
--- what stood before is what stands first
-pub first_kept : (start now more : List ℕ) (n : ℕ) → now ≡ start ++ more → n ≡ length start → take n now ≡ start
-first_kept start now more n e h = ap (take n) e ∙ take_at start more n (sym h)
-
--- one number more in a line
-pub cells_more : (width : ℕ) (ns start now next : List ℕ) (i : ℕ) → i < length ns → now ≡ start ++ flat_map (right width) (take i ns) → next ≡ now ++ right width (get_or ns i 0) → next ≡ start ++ flat_map (right width) (take (i + 1) ns)
-cells_more width ns start now next i h e f =
-    f ∙ ap (λ xs. xs ++ right width (get_or ns i 0)) e ∙ flat_map_more (right width) start (take i ns) (get_or ns i 0) ∙ ap (λ xs. start ++ flat_map (right width) xs) (sym (take_more ns i 0 h))
-
--- the line's end
-pub cells_all : (width : ℕ) (ns start now next : List ℕ) (i : ℕ) → length ns ≤ i → now ≡ start ++ flat_map (right width) (take i ns) → next ≡ now ++ 10 ∷ [] → next ≡ start ++ row width ns
-cells_all width ns start now next i h e f =
-    f ∙ ap (λ xs. xs ++ 10 ∷ []) (e ∙ ap (λ xs. start ++ flat_map (right width) xs) (take_all i ns h)) ∙ append_assoc start (flat_map (right width) ns) (10 ∷ [])
-
--- what a step that may fail leaves
-pub step_ok : {T E : Type 0} {r : Result T E} {x : T} (now next more : List ℕ) → r ≡ Ok x → next ≡ cond (is_ok r) (now ++ more) now → next ≡ now ++ more
-step_ok now next more e f = f ∙ ap (λ r. cond (is_ok r) (now ++ more) now) e
-
-pub step_err : {T E : Type 0} {r : Result T E} {x : E} (now next more : List ℕ) → r ≡ Err x → next ≡ cond (is_ok r) (now ++ more) now → next ≡ now
-step_err now next more e f = f ∙ ap (λ r. cond (is_ok r) (now ++ more) now) e
-
--- an error is not `Ok`
-pub never_ok : {T E : Type 0} {P : Type 0} (Q : E → Type 0) (r : Result T E) → IsErrAnd r Q → is_ok r ≡ true → P
-never_ok Q r e ok = let p = err_from_is_err_and {Q = Q} r e in absurd (false≢true (ap is_ok (sym p.1) ∙ ok))
+pub cell : (width n : ℕ) → styled_decimal (format_spec 32 3 0 width (2 ^ 64 - 1)) n ≡ right width n
+unfolding padded_integral char_count lib.Utf8.encode
+cell zero n = ap (λ k. replicate k 32 ++ decimal n) {x = 0} (omega arith)
+cell (suc w) n =
+    let s = format_spec 32 3 0 (suc w) (2 ^ 64 - 1) in
+    let k = suc w - length (decimal n) - 0 - 0 in
+    cond-false (is_bare_number s) (decimal n) (padded_integral s false [] (decimal n)) (and_left (suc w == 0 && not s.plus) (not s.alternate) (and_left (suc w == 0) (not s.plus) (eqb-suc-zero w)))
+    ∙ filled k (k - k) (decimal n) (omega arith) ∙ ap (λ i. replicate i 32 ++ decimal n) (omega arith)
