@@ -1,2 +1,1 @@
-pub mod Piling
 pub mod Wording

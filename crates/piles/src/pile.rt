@@ -11,38 +11,42 @@ use tokens::collected::Collected;
 use tokens::prose::Prose;
 
 // How a file is read.
-#[derive(Clone, Copy)]
+#[derive(Clone, Copy, Debug, PartialEq, Eq)]
 pub enum Reader {
     Prose,
     Clike,
 }
 
+impl Reader {
+    // The tokens of a file.
+    fn read(self, heap: Global, file: &[u8]) -> Result<Collected, AllocError>
+        ensures { IfOk result (λ c. stream c ≡ read_as self file.now) }
+    {
+        match self {
+            Reader::Prose => Collected::of(heap, Prose::new(file)),
+            Reader::Clike => Collected::of(heap, Clike::new(file)),
+        }
+    }
+}
+
 // A layer to be put on.
-#[derive(Clone, Copy)]
+#[derive(Clone, Copy, Debug, PartialEq, Eq)]
 pub enum Layer {
     Case,
     Drop(u8),
     Names,
 }
 
-// The tokens of a file.
-fn read(heap: Global, reader: Reader, file: &[u8]) -> Result<Collected, AllocError>
-    ensures { IfOk result (λ c. stream c ≡ read_as reader file.now) }
-{
-    match reader {
-        Reader::Prose => Collected::of(heap, Prose::new(file)),
-        Reader::Clike => Collected::of(heap, Clike::new(file)),
-    }
-}
-
-// One layer over a list.
-fn layered(heap: Global, layer: Layer, below: Collected) -> Result<Collected, AllocError>
-    ensures { IfOk result (λ c. stream c ≡ put_on layer (stream below)) }
-{
-    match layer {
-        Layer::Case => Collected::of(heap, Case::over(below)),
-        Layer::Drop(class) => Collected::of(heap, DropClass::over(below, class)),
-        Layer::Names => Collected::of(heap, Names::over(below)),
+impl Layer {
+    // This layer over a list.
+    fn over(self, heap: Global, below: Collected) -> Result<Collected, AllocError>
+        ensures { IfOk result (λ c. stream c ≡ put_on self (stream below)) }
+    {
+        match self {
+            Layer::Case => Collected::of(heap, Case::over(below)),
+            Layer::Drop(class) => Collected::of(heap, DropClass::over(below, class)),
+            Layer::Names => Collected::of(heap, Names::over(below)),
+        }
     }
 }
 
@@ -55,9 +59,9 @@ pub fn pile(
 ) -> Result<Collected, AllocError>
     ensures { IfOk result (λ c. stream c ≡ piled layers.now (read_as reader file.now)) }
 {
-    let mut all = read(heap, reader, file)?;
+    let mut all = reader.read(heap, file)?;
     for layer in layers {
-        all = layered(heap, *layer, all)?;
+        all = layer.over(heap, all)?;
     }
     Ok(all)
 }
