@@ -5,34 +5,32 @@ use pages::whole::page;
 use std::fs;
 use std::io::Write;
 use std::process::ExitCode;
+use thiserror::Error;
 
 // What went wrong outside the page, which is not printed then.
+#[derive(Debug, Drop, Error)]
 enum Stop {
+    #[error("there is not enough memory")]
     Memory,
+    #[error("the page cannot be written")]
     Output,
 }
 
 fn main(rt: HostRuntime) -> ExitCode {
     match run(&rt) {
-        Ok(()) => return ExitCode::SUCCESS,
-        Err(Stop::Memory) => {
-            let _ = eprintln!(rt; "passages: there is not enough memory");
-        }
-        Err(Stop::Output) => {
-            let _ = eprintln!(rt; "passages: the page cannot be written");
+        Ok(()) => ExitCode::SUCCESS,
+        Err(stop) => {
+            let _ = eprintln!(rt; "passages: {stop}");
+            ExitCode::FAILURE
         }
     }
-    ExitCode::FAILURE
 }
 
 fn run(rt: &HostRuntime) -> Result<(), Stop> {
     let left = fs::read(rt, "left.txt").ok();
     let right = fs::read(rt, "right.txt").ok();
-    let Ok(page) = page(rt.alloc(), left, right) else {
-        return Err(Stop::Memory);
-    };
-    match rt.stdout().write_all(page.as_slice()) {
-        Ok(()) => Ok(()),
-        Err(_) => Err(Stop::Output),
-    }
+    let page = page(rt.alloc(), left, right).map_err(|_| Stop::Memory)?;
+    rt.stdout()
+        .write_all(page.as_slice())
+        .map_err(|_| Stop::Output)
 }
