@@ -10,9 +10,28 @@ use tokens::collected::Collected;
 use tokens::either::Either;
 use tokens::prose::Prose;
 use tokens::source::Source;
-use tokens::token::Fault;
+use tokens::token::{Fault, Token};
 
-// Code, class, from and to of each token that is left of a file, and the ending as cause, place and depth.
+// Code, class, from and to of a token, in a row: shorter to read than a `Token` with its four names.
+fn row(token: &Token) -> [u32; 4] {
+    [
+        u32::from(token.code),
+        u32::from(token.class.number()),
+        token.from,
+        token.to,
+    ]
+}
+
+// Cause, place and depth of a fault.
+fn numbers(fault: Fault) -> [u32; 3] {
+    [
+        u32::from(fault.cause.number()),
+        fault.place,
+        u32::from(fault.depth),
+    ]
+}
+
+// The row of each token that is left of a file, and the numbers of its ending.
 fn expect(
     rt: &impl Abort,
     heap: Global,
@@ -22,29 +41,12 @@ fn expect(
     ending: Option<[u32; 3]>,
 ) -> Result<(), Fail> {
     let all = pile(heap, Reader::Prose, layers, file)?;
-    assert!(rt; all.list.len() == tokens.len(), "the count of tokens");
-    for (token, want) in all.list.iter().zip(tokens.iter()) {
-        let got = [
-            u32::from(token.code),
-            u32::from(token.class.number()),
-            token.from,
-            token.to,
-        ];
-        assert!(rt; got == *want, "a token");
-    }
-    assert!(rt; numbers(all.ending) == ending, "the ending");
+    assert!(rt;
+        all.list.iter().map(row).eq(tokens.iter().copied()),
+        "the tokens"
+    );
+    assert!(rt; all.ending.map(numbers) == ending, "the ending");
     Ok(())
-}
-
-fn numbers(ending: Option<Fault>) -> Option<[u32; 3]> {
-    match ending {
-        None => None,
-        Some(fault) => Some([
-            u32::from(fault.cause.number()),
-            fault.place,
-            u32::from(fault.depth),
-        ]),
-    }
 }
 
 #[test]
@@ -126,10 +128,8 @@ fn capitals_at_the_ends(rt: HostRuntime) -> Result<(), Fail> {
 #[test]
 fn the_longest_name(rt: HostRuntime) -> Result<(), Fail> {
     let heap = rt.alloc();
-    let mut file = vec![in heap; b'.'; 1]?;
-    for _ in 0..255 {
-        file.push(b'n')?;
-    }
+    let mut file = Vec::from_slice(heap, b".")?;
+    file.resize(256, b'n')?;
     let point = [46, 7, 0, 1];
     expect(
         &rt,
@@ -160,7 +160,7 @@ fn the_largest_file(rt: HostRuntime) -> Result<(), Fail> {
     let mut file = vec![in heap; b'x'; 1_048_576]?;
     let all = Collected::of(heap, Prose::new(file.as_slice()))?;
     assert!(rt; all.list.len() == 1_048_576);
-    assert!(rt; numbers(all.ending).is_none());
+    assert!(rt; all.ending.is_none());
     file.push(b'x')?;
     expect(&rt, heap, file.as_slice(), &[], &[], Some([1, 0, 0]))
 }
@@ -195,8 +195,5 @@ fn a_sum_is_either(rt: HostRuntime) {
 }
 
 fn code<S: Source>(source: &mut S) -> Option<u16> {
-    match source.next() {
-        Ok(Some(token)) => Some(token.code),
-        _ => None,
-    }
+    source.next().ok().flatten().map(|token| token.code)
 }
