@@ -48,8 +48,8 @@ fn push_passage(out: &mut Vec<u8>, x: &Passage) -> Result<(), AllocError>
 fn push_passages(out: &mut Vec<u8>, list: &[Passage]) -> Result<(), AllocError>
     ensures { is_ok result ≡ true → out.new.items ≡ out.old.items ++ flat_map passage_line list.now }
 {
-    for i in 0..list.len() {
-        push_passage(out, &list[i])?;
+    for x in list {
+        push_passage(out, x)?;
     }
     Ok(())
 }
@@ -72,14 +72,12 @@ pub fn page_of(heap: Global, answers: Vec<Answer>) -> Result<Vec<u8>, AllocError
 {
     for answer in answers {
         match answer {
-            Answer::Added(Err(refusal)) => return refusal_page(heap, refusal),
-            Answer::Removed(Err(refusal)) => return refusal_page(heap, refusal),
-            Answer::Held(Err(refusal), _) => return refusal_page(heap, refusal),
-            Answer::Reported(Err(refusal), _) => return refusal_page(heap, refusal),
+            Answer::Added(Err(refusal))
+            | Answer::Removed(Err(refusal))
+            | Answer::Held(Err(refusal), _)
+            | Answer::Reported(Err(refusal), _) => return refusal_page(heap, refusal),
             Answer::Reported(Ok(counts), list) => return report_page(heap, counts, list.as_slice()),
-            Answer::Added(Ok(_)) => {}
-            Answer::Removed(Ok(())) => {}
-            Answer::Held(Ok(_), _) => {}
+            Answer::Added(Ok(_)) | Answer::Removed(Ok(())) | Answer::Held(Ok(_), _) => {}
         }
     }
     Ok(Vec::new(heap))

@@ -24,10 +24,7 @@ fn unread_page(heap: Global) -> Result<Vec<u8>, AllocError>
 pub fn page(heap: Global, left: Option<Vec<u8>>, right: Option<Vec<u8>>) -> Result<Vec<u8>, Stop>
     ensures { MatchResult result (λ v. v.items ≡ page (option_map vec_items left) (option_map vec_items right)) (λ e. e ≡ Memory) }
 {
-    let Some(left) = left else {
-        return Ok(unread_page(heap)?);
-    };
-    let Some(right) = right else {
+    let (Some(left), Some(right)) = (left, right) else {
         return Ok(unread_page(heap)?);
     };
     if left.len() > MOST || right.len() > MOST {
