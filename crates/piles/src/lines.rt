@@ -39,7 +39,8 @@ fn push_ending(out: &mut Vec<u8>, ending: Option<Fault>) -> Result<(), AllocErro
     push_row(out, &numbers, WIDTH)
 }
 
-// A line for each token of a source, and one that says how its list ended.
+// A line for each token of a source, and one that says how its list ended. It writes as the tokens come: the same walk as
+// that of `Collected::of`, but over a `Collected` it would hold all of them first.
 pub fn page<S: Source + Drop>(heap: Global, mut source: S) -> Result<Vec<u8>, AllocError>
     ensures { IfOk result (λ v. v.items ≡ listing (S.Source.tokens source) (S.Source.ending source)) }
 {
