@@ -26,6 +26,7 @@ pub enum Stop {
     Plan(Refusal),
 }
 
+// Written out, since a derived `From` has no contract, and the contracts here name the error that `?` makes.
 impl From<AllocError> for Stop {
     ghost from_gives = { λ _ s. s ≡ Memory };
 
