@@ -17,7 +17,7 @@ fn push_token(out: &mut Vec<u8>, token: &Token) -> Result<(), AllocError>
 {
     let numbers = [
         u64::from(token.code),
-        u64::from(token.class.number()),
+        u64::from(u8::from(token.class)),
         u64::from(token.from),
         u64::from(token.to),
     ];
@@ -32,7 +32,7 @@ fn push_ending(out: &mut Vec<u8>, ending: Option<Fault>) -> Result<(), AllocErro
     };
     out.extend_from_slice(b"fault")?;
     let numbers = [
-        u64::from(fault.cause.number()),
+        u64::from(u8::from(fault.cause)),
         u64::from(fault.place),
         u64::from(fault.depth),
     ];
@@ -45,14 +45,10 @@ pub fn page<S: Source + Drop>(heap: Global, mut source: S) -> Result<Vec<u8>, Al
     ensures { IfOk result (λ v. v.items ≡ listing (S.Source.tokens source) (S.Source.ending source)) }
 {
     let mut out = Vec::new(heap);
-    let ending = loop {
-        match source.next() {
-            Ok(Some(token)) => push_token(&mut out, &token)?,
-            Ok(None) => break None,
-            Err(fault) => break Some(fault),
-        }
-    };
-    push_ending(&mut out, ending)?;
+    while let Ok(Some(token)) = source.next() {
+        push_token(&mut out, &token)?;
+    }
+    push_ending(&mut out, source.next().err())?;
     Ok(out)
 }
 

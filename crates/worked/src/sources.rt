@@ -1,4 +1,5 @@
 // Prose and the layers at their edges.
+use either::Either;
 use layers::case::Case;
 use layers::dropping::DropClass;
 use layers::names::Names;
@@ -7,16 +8,15 @@ use std::alloc::Global;
 use std::process::Abort;
 use std::test::Fail;
 use tokens::collected::Collected;
-use tokens::either::Either;
 use tokens::prose::Prose;
 use tokens::source::Source;
 use tokens::token::{Fault, Token};
 
 // Code, class, from and to of a token, in a row: shorter to read than a `Token` with its four names.
-fn row(token: &Token) -> [u32; 4] {
+fn row(token: Token) -> [u32; 4] {
     [
         u32::from(token.code),
-        u32::from(token.class.number()),
+        u32::from(u8::from(token.class)),
         token.from,
         token.to,
     ]
@@ -25,7 +25,7 @@ fn row(token: &Token) -> [u32; 4] {
 // Cause, place and depth of a fault.
 fn numbers(fault: Fault) -> [u32; 3] {
     [
-        u32::from(fault.cause.number()),
+        u32::from(u8::from(fault.cause)),
         fault.place,
         u32::from(fault.depth),
     ]
@@ -42,7 +42,7 @@ fn expect(
 ) -> Result<(), Fail> {
     let all = pile(heap, Reader::Prose, layers, file)?;
     assert!(rt;
-        all.list.iter().map(row).eq(tokens.iter().copied()),
+        all.list.map(row).eq(tokens.iter().copied()),
         "the tokens"
     );
     assert!(rt; all.ending.map(numbers) == ending, "the ending");
@@ -168,8 +168,7 @@ fn the_largest_file(rt: HostRuntime) -> Result<(), Fail> {
 #[test]
 fn depth_stays_at_255(rt: HostRuntime) {
     let deep = Collected {
-        list: Vec::new(rt.alloc()),
-        at: 0,
+        list: Vec::new(rt.alloc()).into_iter(),
         ending: None,
         depth: 254,
     };
