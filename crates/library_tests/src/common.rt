@@ -81,7 +81,7 @@ pub fn refusal<T: Drop>(answer: Result<T, Refusal>) -> [u32; 3] {
     match answer {
         Ok(_) => [0; 3],
         Err(refusal) => [
-            u32::from(refusal.reason.number()),
+            u32::from(u8::from(refusal.reason)),
             refusal.place,
             u32::from(refusal.depth),
         ],
@@ -93,7 +93,7 @@ pub fn granted<T: Drop>(answer: Result<T, Refusal>) -> Result<T, Fail> {
     match answer {
         Ok(granted) => Ok(granted),
         Err(refusal) => {
-            let number = refusal.reason.number();
+            let number = u8::from(refusal.reason);
             Err(Fail::new(format_args!("refused by {number}")))
         }
     }

@@ -6,7 +6,7 @@ use prints::polynomial::Polynomial;
 fn refusal(k: usize, t: usize) -> u8 {
     match Plan::<Polynomial>::new(k, t) {
         Ok(_) => 0,
-        Err(refusal) => refusal.reason.number(),
+        Err(refusal) => u8::from(refusal.reason),
     }
 }
 

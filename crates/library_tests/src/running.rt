@@ -63,7 +63,7 @@ fn row(answer: &Answer) -> [u64; 4] {
         Answer::Added(Err(refusal))
         | Answer::Removed(Err(refusal))
         | Answer::Held(Err(refusal), _)
-        | Answer::Reported(Err(refusal), _) => [0, u64::from(refusal.reason.number()), 0, 0],
+        | Answer::Reported(Err(refusal), _) => [0, u64::from(u8::from(refusal.reason)), 0, 0],
     }
 }
 

@@ -21,7 +21,7 @@ pub fn refusal_page(heap: Global, refusal: Refusal) -> Result<Vec<u8>, AllocErro
     let mut out = Vec::new(heap);
     let numbers = [
         0,
-        u64::from(refusal.reason.number()),
+        u64::from(u8::from(refusal.reason)),
         u64::from(refusal.place),
         u64::from(refusal.depth),
     ];

@@ -5,7 +5,6 @@ ghost use Rattle.pages.specs.declared.comparing.Stop.TheVariants.{Memory};
 ghost use Rattle.pages.specs.Pages.{file_tokens, file_ending, plan, calls};
 ghost use Rattle.pages.specs.Sides.{side_tokens, side_ending};
 
-use filling::entries::unused_token;
 use layers::case::Case;
 use layers::dropping::DropClass;
 use library::plan::Plan;
@@ -18,6 +17,7 @@ use prints::polynomial::Polynomial;
 use prints::window::Placed;
 use std::alloc::{AllocError, Global};
 use tokens::prose::Prose;
+use tokens::token::Token;
 
 // Why two files could not be compared.
 #[derive(Drop)]
@@ -72,7 +72,7 @@ fn comparison<'a>(
 {
     let first = adding(heap, 1, left)?;
     let second = adding(heap, 2, right)?;
-    let list = vec![in heap; Passage::none(); 256]?;
+    let list = vec![in heap; Passage::default(); 256]?;
     let mut calls = Vec::with_capacity(heap, 3)?;
     calls.push_reserved(first);
     calls.push_reserved(second);
@@ -88,7 +88,7 @@ pub fn compared<'a>(heap: Global, left: &'a [u8], right: &'a [u8]) -> Result<Vec
         Ok(plan) => plan,
         Err(refusal) => return Err(Stop::Plan(refusal)),
     };
-    let mut tokens = vec![in heap; unused_token(); 4096]?;
+    let mut tokens = vec![in heap; Token::default(); 4096]?;
     let blank = Fingerprint {
         value: 0u32,
         file: 0,
