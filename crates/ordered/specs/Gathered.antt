@@ -49,18 +49,6 @@ pub record Grown {X : Type 0} (cmp : X → X → Ordering) (before after : List 
   pub rest : drop (n + 1) after ≡ drop (n + 1) before
   pub lists : Rising cmp (take n before) → ListsExactly cmp (take r after) (λ z. In z (take (n + 1) before))
 
--- the first r are the rising list of exactly the first n; what stands past the first n is untouched
-pub record Gathered {X : Type 0} (cmp : X → X → Ordering) (before after : List X) (n r : ℕ) : Type 0 where
-  pub fewer : r ≤ n
-  pub rest : drop n after ≡ drop n before
-  pub lists : ListsExactly cmp (take r after) (λ z. In z (take n before))
-
--- the same where what stands from `at` on is free
-pub record Sorted {X : Type 0} (cmp : X → X → Ordering) (before after : List X) (n at r : ℕ) : Type 0 where
-  pub fewer : r ≤ n
-  pub rest : take (at - n) (drop n after) ≡ take (at - n) (drop n before)
-  pub lists : ListsExactly cmp (take r after) (λ z. In z (take n before))
-
 -- the first n, which rise, and the m behind them become one rising list of exactly their records; all else is free
 pub record TakenIn {X : Type 0} (cmp : X → X → Ordering) (before after : List X) (n m r : ℕ) : Type 0 where
   pub fewer : r ≤ n + m

@@ -1,6 +1,8 @@
 // Many records put in at once: the batch is sorted where it stands and then merged with the list.
-ghost use Rattle.std.specs.Prelude.{◌≡◌, ◌+◌, ◌<◌, ◌≤◌, length, slice_set};
-ghost use Rattle.ordered.specs.Gathered.{moved, turned, larger, Merged, Parting, Joined, Grown, Gathered, Sorted, TakenIn, AllIn};
+ghost use Rattle.std.specs.Prelude.{◌≡◌, ◌+◌, ◌<◌, ◌≤◌, length, slice_set, take};
+ghost use Rattle.ordered.specs.Gathered.{moved, turned, larger, Merged, Parting, Joined, Grown, TakenIn, AllIn};
+ghost use Rattle.order.specs.Listed.{In, ListsExactly};
+ghost use Rattle.std.specs.List.Sorted.{IsSorted};
 
 use crate::edit::insert;
 use crate::insertion::Insertion;
@@ -138,37 +140,36 @@ fn join<T: Order>(xs: &mut [T], a: usize, b: usize, at: usize) -> usize
     low + high
 }
 
-// Below this many records a batch is sorted by putting in one after the other.
-const FEW: usize = 16;
-
-// The first n records, one after the other, become a rising list. By places, since the slice that is read is the one that is written.
-fn insert_each<T: Order>(xs: &mut [T], n: usize) -> usize
-    requires { n ≤ length xs.old }
-    ensures { Gathered T.Ord.cmp xs.old xs.new n result }
+// Of equal records, which stand side by side where the list is sorted, one is kept, and the answer is how many there are then. By hand,
+// since only a `Vec` has `dedup`.
+fn dedup<T: Order>(list: &mut [T]) -> usize
+    ensures fewer { result ≤ length list.old }
+    ensures lists { IsSorted T.Ord.cmp list.old → ListsExactly T.Ord.cmp (take result list.new) (λ y. In y list.old) }
 {
-    let mut count = 0;
-    for k in 0..n {
-        let x = xs[k];
-        xs[count] = x;
-        count = insert_next(xs, count);
+    if list.is_empty() {
+        return 0;
+    }
+    let mut last = list[0];
+    let mut count = 1;
+    for k in 1..list.len() {
+        let x = list[k];
+        if last.cmp(&x).is_ge() {
+            continue;
+        }
+        list[count] = x;
+        count += 1;
+        last = x;
     }
     count
 }
 
-// The first n records become a rising list, each half on its own first. What stands from `at` on is free room.
-fn sort<T: Order>(xs: &mut [T], n: usize, at: usize) -> usize
-    requires apart { n ≤ at }
-    requires within { at ≤ length xs.old }
-    ensures { Sorted T.Ord.cmp xs.old xs.new n at result }
+// The records become a rising list.
+fn sort<T: Order>(list: &mut [T]) -> usize
+    ensures fewer { result ≤ length list.old }
+    ensures lists { ListsExactly T.Ord.cmp (take result list.new) (λ y. In y list.old) }
 {
-    if n <= FEW {
-        return insert_each(xs, n);
-    }
-    let mid = n / 2;
-    let a = sort(xs, mid, at);
-    let b = sort(&mut xs[mid..], n - mid, at - mid);
-    copy_part(xs, mid, b, a);
-    join(xs, a, b, at)
+    list.sort_unstable();
+    dedup(list)
 }
 
 // The m records behind the first n become part of the list; what stands behind them is free room.
@@ -176,7 +177,7 @@ fn take_in<T: Order>(xs: &mut [T], n: usize, m: usize) -> usize
     requires { n + m ≤ length xs.old }
     ensures { TakenIn T.Ord.cmp xs.old xs.new n m result }
 {
-    let b = sort(&mut xs[n..], m, m);
+    let b = sort(&mut xs[n..n + m]);
     join(xs, n, b, n + m)
 }
 
