@@ -76,6 +76,7 @@ impl<'a, T: Order> OrderedList<'a, T> {
         ensures after { AfterInsert T.Ord.cmp self.old.entries.now self.new.entries.now self.old.count x result }
         ensures count { self.new.count ≡ self.old.count + more result }
         ensures lists { result ≢ Insertion.Full → ListsExactly T.Ord.cmp (take self.new.count self.new.entries.now) (λ y. In y (x ∷ take self.old.count self.old.entries.now)) }
+        ensures room { length self.new.entries.now ≡ length self.old.entries.now }
         ensures same_reference { self.new.entries.ghost_name ≡ self.old.entries.ghost_name }
     {
         let answer = insert(self.entries, self.count, x);
@@ -91,6 +92,7 @@ impl<'a, T: Order> OrderedList<'a, T> {
         requires { self.old.count + m ≤ length self.old.entries.now }
         ensures after { AllIn T.Ord.cmp self.old.entries.now self.new.entries.now self.old.count m self.new.count }
         ensures lists { ListsExactly T.Ord.cmp (take self.new.count self.new.entries.now) (λ y. In y (take (self.old.count + m) self.old.entries.now)) }
+        ensures room { length self.new.entries.now ≡ length self.old.entries.now }
         ensures same_reference { self.new.entries.ghost_name ≡ self.old.entries.ghost_name }
     {
         self.count = insert_all(self.entries, self.count, m);
@@ -101,6 +103,7 @@ impl<'a, T: Order> OrderedList<'a, T> {
         ensures after { MatchOption result (Missed T.Ord.cmp self.old.entries.now self.new.entries.now self.old.count x) (λ i. TakenOut T.Ord.cmp self.old.entries.now self.new.entries.now self.old.count i x) }
         ensures count { MatchOption result (self.new.count ≡ self.old.count) (λ _. self.new.count + 1 ≡ self.old.count) }
         ensures lists { ListsExactly T.Ord.cmp (take self.new.count self.new.entries.now) (λ y. In y (take self.old.count self.old.entries.now) × (x ≢ y)) }
+        ensures room { length self.new.entries.now ≡ length self.old.entries.now }
         ensures same_reference { self.new.entries.ghost_name ≡ self.old.entries.ghost_name }
     {
         let place = remove(self.entries, self.count, x)?;
@@ -114,6 +117,7 @@ impl<'a, T: Order> OrderedList<'a, T> {
         ensures fewer { Fewer T.Ord.cmp self.old.entries.now self.new.entries.now self.old.count self.new.count }
         ensures thinned { (named : T → Bool) → ComputesKey F.FnMut named test → Thinned T.Ord.cmp named self.old.entries.now self.new.entries.now self.old.count self.new.count }
         ensures lists { (named : T → Bool) → ComputesKey F.FnMut named test → ListsExactly T.Ord.cmp (take self.new.count self.new.entries.now) (λ y. In y (take self.old.count self.old.entries.now) × (named y ≡ false)) }
+        ensures room { length self.new.entries.now ≡ length self.old.entries.now }
         ensures same_reference { self.new.entries.ghost_name ≡ self.old.entries.ghost_name }
     {
         self.count = remove_all(self.entries, self.count, test);

@@ -114,6 +114,10 @@ module _ {V : Type 0} (k : ℕ) (fs : Files) where
             (g.only x m);
       }
 
+  -- what is tallied, under other names
+  pub tallied_same : {ps : Pairs V} {list list' after after' : List Passage} {t t' u u' : Reported} → list ≡ list' → t ≡ t' → after' ≡ after → u' ≡ u → Tallied k fs ps list t after u → Tallied k fs ps list' t' after' u'
+  tallied_same a b c d h = rw (sym a, sym b, c, d) h
+
 -- ---- one pair
 
 module _ {V : Type 0} (k : ℕ) (fs : Files) (p : Fingerprint V × Fingerprint V) (list : List Passage) (t : Reported) (ready : Ready list t) where
@@ -229,20 +233,8 @@ module _ {V : Type 0} (k : ℕ) (fs : Files) (a b : Fingerprint V) {own other : 
   pub alike_is : gram_same k own other i j ≡ alike k fs (a, b)
   alike_is = rw (here, there, left, right) refl
 
-  pub alike_yes : SameGrams k own other i j → alike k fs (a, b) ≡ true
-  alike_yes h = sym alike_is ∙ sym (answer_yes k own other i j h)
-
-  pub alike_not : (SameGrams k own other i j → ⊥) → alike k fs (a, b) ≡ false
-  alike_not h = sym alike_is ∙ sym (answer_no k own other i j h)
-
   pub around_is : passage b.file own other (grown k own other i j) ≡ around k fs (a, b)
   around_is = rw (here, there, left, right) refl
-
--- grams that lie within, and whose tokens are all the same
-pub grams_met : (k : ℕ) (xs ys : List Token) (i j d : ℕ) → true ≡ (leb (i + k) (length xs) && leb (j + k) (length ys)) → k ≤ d → ((e : ℕ) → e < d → same_at xs ys (i + e) (j + e) ≡ true) → SameGrams k xs ys i j
-grams_met k xs ys i j d lie all each =
-    let h = and_parts (leb (i + k) (length xs)) (leb (j + k) (length ys)) (sym lie) in
-    record { left_in = leb-true (i + k) (length xs) h.0; right_in = leb-true (j + k) (length ys) h.1; each = λ e l. each e (omega arith) }
 
 -- ---- one fingerprint with its partners
 

@@ -1,5 +1,5 @@
 -- What some pairs bring to the counts and to the list of a report. Assumes nothing.
-use Rattle.std.specs.Prelude.{◌≡◌, ℕ, ◌+◌, ◌^◌, ◌<◌, ◌≤◌, ◌⊎◌, List, length, take, drop, Option, MatchOption}
+use Rattle.std.specs.Prelude.{◌≡◌, ℕ, ◌+◌, ◌^◌, ◌<◌, ◌≤◌, ◌⊎◌, List, length, take, drop, Result, MatchResult}
 use Rattle.order.specs.Listed.{In, Rising, ListsExactly}
 use Rattle.model.specs.declared.answers.Reported.{Reported}
 use Rattle.model.specs.declared.passage.Passage.{Passage}
@@ -37,5 +37,6 @@ module _ {V : Type 0} (k : ℕ) (fs : Files) (ps : Pairs V) (before : List Passa
     pub rises : Rising by_eight due
     pub only : (x : Passage) → In x due → Due x
 
-  abbrev pub Counted : List Passage → Option Reported → Type 0
-  Counted after r = MatchOption r Overfull (Tallied after)
+  -- what meeting all pairs leaves, or that the list is too short for what they mark
+  abbrev pub Counted : {E : Type 0} → List Passage → Reported → Result (Unit {0}) E → Type 0
+  Counted after u r = MatchResult r (λ _. Tallied after u) (λ _. Overfull)

@@ -8,3 +8,4 @@ mod held;
 mod pairs;
 pub mod report;
 mod scope;
+mod tally;

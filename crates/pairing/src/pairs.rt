@@ -4,12 +4,12 @@ ghost use Rattle.runs.specs.Shares.{SameGrams};
 ghost use Rattle.model.specs.Files.{tokens_of};
 ghost use Rattle.model.specs.Passages.{passage, grown, span};
 ghost use Rattle.pairing.specs.Groups.{with_each};
-ghost use Rattle.pairing.specs.Tallies.{Ready, Counted};
+ghost use Rattle.pairing.specs.Tallies.{Counted};
 ghost use Rattle.pairing.specs.Scopes.{files, held_files};
 
 use crate::held::HeldFiles;
 use crate::scope::Scope;
-use model::answers::Reported;
+use crate::tally::{ListFull, Tally};
 use model::fingerprint::Fingerprint;
 use model::passage::{ByteSpan, Passage};
 use order::Order;
@@ -59,42 +59,44 @@ fn passage_around(other: u16, grams: Alignment<'_>, k: usize) -> Passage
     }
 }
 
-// Meets a fingerprint of the reported file with each of its partners. Nothing is answered where the list has no free entry for a passage.
-// The counts saturate, so that no bound on them has to be carried along: an index has far fewer pairs.
-pub fn meet<V: Order>(
-    scope: Scope,
-    a: Fingerprint<V>,
-    partners: &[Fingerprint<V>],
-    list: &mut [Passage],
-    mut counts: Reported,
-) -> Option<Reported>
-    requires own { a.file ≡ scope.number }
-    requires ready { Ready list.old counts }
-    ensures { Counted scope.entry.k (files scope.entry) (with_each a partners.now) list.old counts list.new result }
-{
-    let i = a.place as usize;
-    let mut file = scope.number;
-    let mut other = scope.own;
-    for b in partners {
-        other = tokens_next(scope.held, other, file, b.file);
-        file = b.file;
-        counts.pairs = counts.pairs.saturating_add(1);
-        let grams = Alignment {
-            xs: scope.own,
-            i,
-            ys: other,
-            j: b.place as usize,
-        };
-        if !grams.same_grams(scope.k) {
-            counts.differing = counts.differing.saturating_add(1);
-            continue;
+impl Tally<'_> {
+    // Meets a fingerprint of the reported file with each of its partners. The counts saturate, so that no bound on them has to be
+    // carried along: an index has far fewer pairs.
+    pub fn meet<V: Order>(
+        &mut self,
+        scope: Scope,
+        a: Fingerprint<V>,
+        partners: &[Fingerprint<V>],
+    ) -> Result<(), ListFull>
+        requires { a.file ≡ scope.number }
+        ensures same_reference { self.new.list.ghost_name ≡ self.old.list.ghost_name }
+        ensures long { length self.new.list.now ≡ length self.old.list.now }
+        ensures counted { Counted scope.entry.k (files scope.entry) (with_each a partners.now) self.old.list.now self.old.counts self.new.list.now self.new.counts result }
+    {
+        let i = a.place as usize;
+        let mut file = scope.number;
+        let mut other = scope.own;
+        for b in partners {
+            other = tokens_next(scope.held, other, file, b.file);
+            file = b.file;
+            self.counts.pairs = self.counts.pairs.saturating_add(1);
+            let grams = Alignment {
+                xs: scope.own,
+                i,
+                ys: other,
+                j: b.place as usize,
+            };
+            if !grams.same_grams(scope.k) {
+                self.counts.differing = self.counts.differing.saturating_add(1);
+                continue;
+            }
+            let found = passage_around(file, grams, scope.k);
+            match insert(self.list, self.counts.passages, found) {
+                Insertion::At(_) => self.counts.passages += 1,
+                Insertion::Present(_) => {}
+                Insertion::Full => return Err(ListFull),
+            }
         }
-        let found = passage_around(file, grams, scope.k);
-        match insert(list, counts.passages, found) {
-            Insertion::At(_) => counts.passages += 1,
-            Insertion::Present(_) => {}
-            Insertion::Full => return None,
-        }
+        Ok(())
     }
-    Some(counts)
 }

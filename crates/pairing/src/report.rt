@@ -1,5 +1,5 @@
 // The report of one held file.
-ghost use Rattle.std.specs.Prelude.{◌≡◌, ◌≤◌, length, replicate};
+ghost use Rattle.std.specs.Prelude.{◌≡◌, ◌≤◌, length, replicate, MatchResult};
 ghost use Rattle.order.specs.Listed.{In, Rising};
 ghost use Rattle.model.specs.declared.fingerprint.Fingerprint.{Fingerprint};
 ghost use Rattle.model.specs.Files.{known};
@@ -9,13 +9,13 @@ ghost use Rattle.model.specs.Indexes.{index_pairs};
 ghost use Rattle.model.specs.Passages.{no_passage};
 ghost use Rattle.model.specs.Calls.{reported, pairs_outcome};
 ghost use Rattle.pairing.specs.Groups.{crossed, group_pairs};
-ghost use Rattle.pairing.specs.Tallies.{no_counts, Ready, Counted};
+ghost use Rattle.pairing.specs.Tallies.{no_counts, Counted, Tallied, Overfull};
 ghost use Rattle.pairing.specs.Scopes.{files};
 
 use crate::groups::{first_group, others_first, own_first};
 use crate::held::HeldFiles;
-use crate::pairs::meet;
 use crate::scope::Scope;
+use crate::tally::{ListFull, Tally};
 use model::answers::Reported;
 use model::fingerprint::Fingerprint;
 use model::passage::Passage;
@@ -24,61 +24,71 @@ use model::table::Entry;
 use order::Order;
 use tokens::token::Token;
 
-// Meets each of the reported file's fingerprints with those before them and after them.
-fn meet_all<V: Order>(
-    scope: Scope,
-    before: &[Fingerprint<V>],
-    own: &[Fingerprint<V>],
-    after: &[Fingerprint<V>],
-    list: &mut [Passage],
-    mut counts: Reported,
-) -> Option<Reported>
-    requires own { (x : Fingerprint V) → In x own.now → x.file ≡ scope.number }
-    requires ready { Ready list.old counts }
-    ensures { Counted scope.entry.k (files scope.entry) (crossed before.now own.now after.now) list.old counts list.new result }
-{
-    for a in own {
-        counts = meet(scope, *a, before, list, counts)?;
-        counts = meet(scope, *a, after, list, counts)?;
+impl Tally<'_> {
+    // Meets each of the reported file's fingerprints with those before them and after them.
+    fn meet_all<V: Order>(
+        &mut self,
+        scope: Scope,
+        before: &[Fingerprint<V>],
+        own: &[Fingerprint<V>],
+        after: &[Fingerprint<V>],
+    ) -> Result<(), ListFull>
+        requires { (x : Fingerprint V) → In x own.now → x.file ≡ scope.number }
+        ensures same_reference { self.new.list.ghost_name ≡ self.old.list.ghost_name }
+        ensures long { length self.new.list.now ≡ length self.old.list.now }
+        ensures counted { Counted scope.entry.k (files scope.entry) (crossed before.now own.now after.now) self.old.list.now self.old.counts self.new.list.now self.new.counts result }
+    {
+        for a in own {
+            self.meet(scope, *a, before)?;
+            self.meet(scope, *a, after)?;
+        }
+        Ok(())
     }
-    Some(counts)
+
+    // Meets the reported file's fingerprints of a group of one value with the others of the group. As the group rises by file,
+    // they stand together in it.
+    fn meet_group<V: Order>(
+        &mut self,
+        scope: Scope,
+        group: &[Fingerprint<V>],
+    ) -> Result<(), ListFull>
+        ensures same_reference { self.new.list.ghost_name ≡ self.old.list.ghost_name }
+        ensures long { length self.new.list.now ≡ length self.old.list.now }
+        ensures counted { Counted scope.entry.k (files scope.entry) (group_pairs scope.entry.number group.now) self.old.list.now self.old.counts self.new.list.now self.new.counts result }
+    {
+        let low = others_first(group, scope.number);
+        let high = low + own_first(&group[low..], scope.number);
+        self.meet_all(scope, &group[0..low], &group[low..high], &group[high..])
+    }
+
+    // Walks over the index, group by group.
+    fn walk<V: Order>(&mut self, scope: Scope, index: &[Fingerprint<V>]) -> Result<(), ListFull>
+        ensures same_reference { self.new.list.ghost_name ≡ self.old.list.ghost_name }
+        ensures long { length self.new.list.now ≡ length self.old.list.now }
+        ensures counted { Rising (by_fields V.Ord.cmp) index.now → Counted scope.entry.k (files scope.entry) (index_pairs V.Ord.cmp scope.entry.number index.now) self.old.list.now self.old.counts self.new.list.now self.new.counts result }
+    {
+        let mut at = 0;
+        while at < index.len() {
+            let end = at + first_group(&index[at..]);
+            self.meet_group(scope, &index[at..end])?;
+            at = end;
+        }
+        Ok(())
+    }
 }
 
-// Meets the reported file's fingerprints of a group of one value with the others of the group. As the group rises by file,
-// they stand together in it.
-fn meet_group<V: Order>(
+// The counts of the passages that are written into the list.
+fn counted<V: Order>(
     scope: Scope,
-    group: &[Fingerprint<V>],
+    index: &[Fingerprint<V>],
     list: &mut [Passage],
-    counts: Reported,
-) -> Option<Reported>
-    requires { Ready list.old counts }
-    ensures { Counted scope.entry.k (files scope.entry) (group_pairs scope.entry.number group.now) list.old counts list.new result }
+) -> Result<Reported, ListFull>
+    ensures long { length list.new ≡ length list.old }
+    ensures counted { Rising (by_fields V.Ord.cmp) index.now → MatchResult result (Tallied scope.entry.k (files scope.entry) (index_pairs V.Ord.cmp scope.entry.number index.now) list.old no_counts list.new) (λ _. Overfull scope.entry.k (files scope.entry) (index_pairs V.Ord.cmp scope.entry.number index.now) list.old no_counts) }
 {
-    let low = others_first(group, scope.number);
-    let high = low + own_first(&group[low..], scope.number);
-    meet_all(
-        scope,
-        &group[0..low],
-        &group[low..high],
-        &group[high..],
-        list,
-        counts,
-    )
-}
-
-// Walks over the index, group by group.
-fn walk<V: Order>(scope: Scope, index: &[Fingerprint<V>], list: &mut [Passage]) -> Option<Reported>
-    ensures { Rising (by_fields V.Ord.cmp) index.now → Counted scope.entry.k (files scope.entry) (index_pairs V.Ord.cmp scope.entry.number index.now) list.old no_counts list.new result }
-{
-    let mut counts = Reported::default();
-    let mut at = 0;
-    while at < index.len() {
-        let end = at + first_group(&index[at..]);
-        counts = meet_group(scope, &index[at..end], list, counts)?;
-        at = end;
-    }
-    Some(counts)
+    let mut tally = Tally::new(list);
+    tally.walk(scope, index)?;
+    Ok(tally.counts)
 }
 
 // Leaves no passage in the list.
@@ -115,9 +125,9 @@ pub fn report<'a, V: Order>(
         own,
         k,
     };
-    match walk(scope, index, list) {
-        Some(counts) => Ok(counts),
-        None => {
+    match counted(scope, index, list) {
+        Ok(counts) => Ok(counts),
+        Err(ListFull) => {
             clear(list);
             Err(Refusal::plain(Reason::ReportFull))
         }
