@@ -7,6 +7,7 @@ use crate::store::Store;
 use model::answers::Reported;
 use model::passage::Passage;
 use model::refusal::Refusal;
+use pairing::held::HeldFiles;
 use pairing::report::report;
 use prints::hash::GramHash;
 
@@ -16,14 +17,11 @@ impl<H: GramHash> Store<'_, '_, H> {
     pub fn report(&self, number: u16, list: &mut [Passage]) -> Result<Reported, Refusal>
         ensures { Step H.GramHash.value H.Value.Ord.cmp (state self.now) (state self.now) (report number (length list.old)) (reported result list.new) }
     {
+        let held = HeldFiles {
+            tokens: self.tokens,
+            table: self.table.as_slice(),
+        };
         let index = &self.index[..self.prints];
-        report(
-            self.tokens,
-            self.table.as_slice(),
-            index,
-            number,
-            self.plan.k,
-            list,
-        )
+        report(held, index, number, self.plan.k, list)
     }
 }

@@ -4,7 +4,7 @@
 #![tactic(auto)]
 
 mod groups;
-mod held;
+pub mod held;
 mod pairs;
 pub mod report;
 mod scope;

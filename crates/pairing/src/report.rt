@@ -3,14 +3,13 @@ ghost use Rattle.std.specs.Prelude.{◌≡◌, ◌≤◌, length, replicate, Mat
 ghost use Rattle.order.specs.Listed.{In, Rising};
 ghost use Rattle.model.specs.declared.fingerprint.Fingerprint.{Fingerprint};
 ghost use Rattle.model.specs.Files.{known};
-ghost use Rattle.model.specs.Tables.{cut, extent};
 ghost use Rattle.model.specs.Prints.{by_fields};
 ghost use Rattle.model.specs.Indexes.{index_pairs};
 ghost use Rattle.model.specs.Passages.{no_passage};
 ghost use Rattle.model.specs.Calls.{reported, pairs_outcome};
 ghost use Rattle.pairing.specs.Groups.{crossed, group_pairs};
 ghost use Rattle.pairing.specs.Tallies.{no_counts, Counted, Tallied, Overfull};
-ghost use Rattle.pairing.specs.Scopes.{files};
+ghost use Rattle.pairing.specs.Scopes.{files, held_files};
 
 use crate::groups::{first_group, others_first, own_first};
 use crate::held::HeldFiles;
@@ -20,9 +19,7 @@ use model::answers::Reported;
 use model::fingerprint::Fingerprint;
 use model::passage::Passage;
 use model::refusal::{Reason, Refusal};
-use model::table::Entry;
 use order::Order;
-use tokens::token::Token;
 
 impl Tally<'_> {
     // Meets each of the reported file's fingerprints with those before them and after them.
@@ -100,22 +97,19 @@ fn clear(list: &mut [Passage])
 
 // Writes the passages of the file of that number with all other files into the list, rising, and counts its pairs. Behind the passages,
 // and where the report is refused, the list has no passage.
-pub fn report<'a, V: Order>(
-    tokens: &'a [Token],
-    table: &'a [Entry],
+pub fn report<V: Order>(
+    held: HeldFiles<'_>,
     index: &[Fingerprint<V>],
     number: u16,
     k: usize,
     list: &mut [Passage],
 ) -> Result<Reported, Refusal>
-    requires within { extent table.now ≤ length tokens.now }
-    requires few { (length tokens.now ≤ 1048576) × (length index.now ≤ 1048576) }
+    requires few { length index.now ≤ 1048576 }
     requires some { 1 ≤ k }
     ensures long { length list.new ≡ length list.old }
-    ensures outcome { Rising (by_fields V.Ord.cmp) index.now → reported result list.new ≡ pairs_outcome (known number (cut table.now tokens.now)) k (cut table.now tokens.now) (index_pairs V.Ord.cmp number index.now) (length list.old) }
+    ensures outcome { Rising (by_fields V.Ord.cmp) index.now → reported result list.new ≡ pairs_outcome (known number (held_files held.entry)) k (held_files held.entry) (index_pairs V.Ord.cmp number index.now) (length list.old) }
 {
     clear(list);
-    let held = HeldFiles { tokens, table };
     let Some(own) = held.tokens_of(number) else {
         return Err(Refusal::plain(Reason::ReportUnheld));
     };
