@@ -7,15 +7,13 @@ use prints::hash::GramHash;
 
 // For every hash: the index of files with distinct numbers lists exactly their fingerprints, each once, and fills as many entries as
 // the files have chosen places.
-pub fn index_lists<H: GramHash>() -> u8
+pub fn index_lists<H: GramHash>()
     ensures { IndexLists H.GramHash.value H.Value.Ord.cmp }
 {
-    0
 }
 
 // For every hash: a report from the pairs that are read off the index is the report that is defined.
-pub fn pairs_by_index<H: GramHash>() -> u8
+pub fn pairs_by_index<H: GramHash>()
     ensures { PairsByIndex H.GramHash.value H.Value.Ord.cmp }
 {
-    0
 }
