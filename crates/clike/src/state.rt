@@ -1,5 +1,6 @@
 // The state of a C-like source.
 ghost use Rattle.std.specs.Prelude.{ℕ, ◌≤◌, slice_index};
+
 use std::num::NonZeroUsize;
 use tokens::token::Fault;
 

@@ -9,11 +9,9 @@ use prints::hash::GramHash;
 // the files have chosen places.
 pub fn index_lists<H: GramHash>()
     ensures { IndexLists H.GramHash.value H.Value.Ord.cmp }
-{
-}
+{}
 
 // For every hash: a report from the pairs that are read off the index is the report that is defined.
 pub fn pairs_by_index<H: GramHash>()
     ensures { PairsByIndex H.GramHash.value H.Value.Ord.cmp }
-{
-}
+{}

@@ -49,7 +49,8 @@ fn index_file<H: GramHash>(
 }
 
 // Reads the source behind the first `used` tokens, and indexes it, where `prints` entries of the index are used. A refusal leaves those
-// tokens and the index as they were.
+// tokens and the index as they were. The lists with their counts are parameters, since a method of the store would have to say of each of its
+// other fields that it stays.
 fn take_in<H: GramHash, S: Source + Drop>(
     tokens: &mut [Token],
     used: usize,

@@ -17,8 +17,9 @@ pub struct Store<'a, 'b, H: GramHash> {
     // how many entries of the token list are used
     pub used: usize,
     pub table: ArrayVec<Entry, 64>,
+    // the index is a slice and a count and no `OrderedList`: a field of that type over a record of a type parameter is not supported
     pub index: &'b mut [Fingerprint<H::Value>],
-    // and of the index
+    // how many entries of the index are used
     pub prints: usize,
     pub plan: Plan<H>,
     ghost full: { used ≡ extent table.items },

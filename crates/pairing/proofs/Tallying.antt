@@ -1,9 +1,8 @@
 -- Pairs that are met one after the other.
-use Rattle.std.proofs.Common.{◌≡◌, ℕ, ◌+◌, ◌-◌, ◌^◌, ◌<◌, ◌≤◌, min, true, false, not, ◌&&◌, leb, List, [], ◌∷◌, ◌++◌, map, length, get_or, take, drop, filter, Ordering, Less, Equal, Greater, sym, refl, ap, ◌∙◌, subst, inl, inr, ⊎_elim, arith}
+use Rattle.std.proofs.Common.{◌≡◌, ℕ, ◌+◌, ◌-◌, ◌^◌, ◌<◌, ◌≤◌, min, true, false, not, List, [], ◌∷◌, ◌++◌, map, length, get_or, take, drop, filter, Ordering, Less, Equal, Greater, sym, refl, ap, ◌∙◌, subst, inl, inr, ⊎_elim, arith}
 use mathlib.Core.List.{map-append}
 use Rattle.std.proofs.lemmas.List.{length-append, length-take-le, get_or-take, drop-drop, map_more, take-append-drop}
 use Rattle.std.proofs.lemmas.List.Elements.{filter-append}
-use Rattle.std.proofs.lemmas.Bool.{and_parts, leb-true}
 use Rattle.order.specs.Total.{TotalOrder}
 use Rattle.order.specs.Listed.{In}
 use Rattle.order.specs.Compared.{by_answer}
@@ -11,8 +10,7 @@ use Rattle.order.proofs.Members.{kept_few}
 use Rattle.order.proofs.Bridges.{in_at}
 use Rattle.order.proofs.Joins.{append_in, in_left, in_right}
 use Rattle.tokens.specs.declared.token.Token.{Token}
-use Rattle.runs.specs.Shares.{same_at, gram_same, SameGrams}
-use Rattle.runs.proofs.Tested.{answer_yes, answer_no}
+use Rattle.runs.specs.Shares.{gram_same}
 use Rattle.ordered.specs.Edited.{PutIn, Already, Missed}
 use Rattle.model.specs.declared.answers.Reported.{Reported}
 use Rattle.model.specs.declared.fingerprint.Fingerprint.{Fingerprint}

@@ -58,7 +58,8 @@ impl Tally<'_> {
         self.meet_all(scope, &group[0..low], &group[low..high], &group[high..])
     }
 
-    // Walks over the index, group by group.
+    // Walks over the index, group by group. By places, and no `for` over `chunk_by`: of slices of a generic record, which that hands out,
+    // the check can't state such a loop.
     fn walk<V: Order>(&mut self, scope: Scope, index: &[Fingerprint<V>]) -> Result<(), ListFull>
         ensures same_reference { self.new.list.ghost_name ≡ self.old.list.ghost_name }
         ensures long { length self.new.list.now ≡ length self.old.list.now }

@@ -9,11 +9,9 @@ use prints::hash::GramHash;
 // alarm, Held tells the held files, and a library opened afresh with the held files alone reports the same.
 pub fn promises<H: GramHash>()
     ensures { Promises H.GramHash.value H.Value.Ord.cmp }
-{
-}
+{}
 
 // For every hash: the pairs of two files are the pairs of chosen places with one value, each counted once.
 pub fn pairs_counted<H: GramHash>()
     ensures { AllPairsCounted H.GramHash.value H.Value.Ord.cmp }
-{
-}
+{}

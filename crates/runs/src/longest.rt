@@ -52,7 +52,8 @@ fn same_at_start(xs: &[Token], ys: &[Token]) -> usize
     xs.iter().zip(ys).take_while(|(x, y)| x.same(y)).count()
 }
 
-// How many tokens are the same from the end of two lists back.
+// How many tokens are the same from the end of two lists back. A chain beside the other one: one function over both ways would need
+// clauses about its iterators' steps.
 fn same_at_end(xs: &[Token], ys: &[Token]) -> usize
     ensures { result ≡ prefix_len (λ p. same p.0 p.1) (zip (reverse xs.now) (reverse ys.now)) }
 {

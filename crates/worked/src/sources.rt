@@ -41,10 +41,7 @@ fn expect(
     ending: Option<[u32; 3]>,
 ) -> Result<(), Fail> {
     let all = pile(heap, Reader::Prose, layers, file)?;
-    assert!(rt;
-        all.list.map(row).eq(tokens.iter().copied()),
-        "the tokens"
-    );
+    assert!(rt; all.list.map(row).eq(tokens.iter().copied()), "the tokens");
     assert!(rt; all.ending.map(numbers) == ending, "the ending");
     Ok(())
 }

@@ -1,7 +1,6 @@
 use Rattle.std.proofs.Common.{◌≡◌, ◌<◌, length, ap, arith}
 use Rattle.std.proofs.lemmas.List.{length-map}
 use Rattle.std.specs.Iterator.Adapters.{enumerate_count}
-use Rattle.prints.specs.Walk.{winnowed}
 use Rattle.prints.proofs.Winnowed.{winnowed_within}
 use Rattle.runs.specs.Passages.{codes}
 use Rattle.filling.proofs.Writes.{next_in, one_more, underway_count}

@@ -1,4 +1,4 @@
-use Rattle.std.proofs.Common.{◌≡◌, take, length}
+use Rattle.std.proofs.Common.{◌≡◌, take}
 use Rattle.model.specs.Files.{tokens_of}
 use Rattle.pairing.specs.Groups.{with_each}
 use Rattle.pairing.specs.Tallies.{Tallied}

@@ -34,9 +34,9 @@ returns-in_err-meet-2-clause-counted g c =
 
 pub loop-a-preserved : goal.loop-a-preserved
 loop-a-preserved g c = (
-      own_more c.args.scope.k (files c.args.scope) c.args.before.now c.args.own.now c.args.after.now c.a-item.result c.loop-a.a-index (omega arith) c.a-item.is c.loop-a.invariant.0 c.in_ok-meet.ensures.counted c.in_ok-meet-2.ensures.counted,
-      c.in_ok-meet-2.ensures.same_reference ∙ c.in_ok-meet.ensures.same_reference ∙ c.loop-a.invariant.1,
-    )
+  own_more c.args.scope.k (files c.args.scope) c.args.before.now c.args.own.now c.args.after.now c.a-item.result c.loop-a.a-index (omega arith) c.a-item.is c.loop-a.invariant.0 c.in_ok-meet.ensures.counted c.in_ok-meet-2.ensures.counted,
+  c.in_ok-meet-2.ensures.same_reference ∙ c.in_ok-meet.ensures.same_reference ∙ c.loop-a.invariant.1,
+)
 
 pub returns : goal.returns
 returns g c =
