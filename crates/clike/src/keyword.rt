@@ -3,7 +3,8 @@ ghost use Rattle.std.specs.Prelude.{◌≡◌, ◌<◌, length, position, IfSome
 ghost use Rattle.std.specs.Str.{bytes_eq};
 ghost use Rattle.clike.specs.Keywords.{keyword_number};
 
-// In alphabetical order: the place of each is its number.
+// In alphabetical order: the place of each is its number. A number and no enum of 32 words, since all that is asked of a keyword is its
+// code, 256 and this number.
 const KEYWORDS: [&[u8]; 32] = [
     b"auto",
     b"break",

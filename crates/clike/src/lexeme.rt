@@ -2,7 +2,8 @@
 ghost use Rattle.std.specs.Prelude.{◌≡◌};
 ghost use Rattle.clike.specs.Cutting.{lexeme_bytes};
 
-// Each but `Nothing` is a part of the bytes that it was cut from; a keyword comes with its number.
+// Each but `Nothing` is a part of the bytes that it was cut from; a keyword comes with its number. `Nothing`, where no lexeme is left, is
+// a case and no `Option`, so that who cuts matches on one enum.
 #[derive(Clone, Copy, PartialEq, Eq, Debug)]
 pub enum Lexeme<'a> {
     Nothing,

@@ -70,6 +70,7 @@ impl<'a> Clike<'a> {
     }
 }
 
+// Each method asks that there is a next byte. It is no ghost field, since a source at its end has none.
 impl Clike<'_> {
     // The token of the next byte.
     fn byte_token(&self, class: Class) -> Token

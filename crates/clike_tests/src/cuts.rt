@@ -4,6 +4,7 @@ use clike::lexeme::Lexeme;
 use std::process::Abort;
 use std::test::Fail;
 
+// The kinds of lexemes without their bytes, so that a case need not repeat these.
 #[derive(Clone, Copy, PartialEq, Eq, Debug)]
 enum Kind {
     Nothing,

@@ -7,6 +7,7 @@ use tokens::source::Source;
 use tokens::token::{Fault, Token};
 
 // The next tokens have these codes and classes, and cover these places.
+// A row is shorter to read than a `Token` with its four names.
 fn next_are<S: Source>(
     rt: &impl Abort,
     source: &mut S,
@@ -21,6 +22,7 @@ fn next_are<S: Source>(
     Ok(())
 }
 
+// The list ends in a fault of the file itself, with this cause, by the number that is answered, at this place.
 fn fault_is(
     rt: &impl Abort,
     answer: Result<Option<Token>, Fault>,

@@ -3,6 +3,7 @@ use clike::cutting::cut;
 use clike::lexeme::Lexeme;
 use std::test::Fail;
 
+// Written out again: a test by the table itself would hold for any words.
 const WORDS: [&[u8]; 32] = [
     b"auto",
     b"break",

@@ -1,4 +1,4 @@
-// Numbers in columns: decimal, right-justified with blanks.
+// Numbers in columns: decimal, right-justified with blanks. Bytes and no `String`, as a page is written.
 #![tactic(auto)]
 
 ghost use Rattle.std.specs.Prelude.{◌≡◌, ◌++◌, is_ok, if◌then◌else◌};

@@ -26,6 +26,7 @@ pub fn write_numbers(table: &[Entry], list: &mut [u16])
     requires { length table.now ≤ length list.old }
     ensures { list.new ≡ map (λ e. e.number) table.now ++ drop (length table.now) list.old }
 {
+    // by place: of what `iter_mut` leaves, a proof knows no element
     for (i, entry) in table.iter().enumerate() {
         list[i] = entry.number;
     }

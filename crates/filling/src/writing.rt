@@ -41,6 +41,7 @@ pub fn write_prints<H: GramHash>(
     ensures { free.new ≡ map (filed number) (winnowed H.GramHash.value H.Value.Ord.cmp by.k by.w (codes tokens.now)) ++ drop (length (winnowed H.GramHash.value H.Value.Ord.cmp by.k by.w (codes tokens.now))) free.old }
 {
     let walk = Winnow::<H, TokenCodes<'_>>::new(TokenCodes { all: tokens }, by, work);
+    // by place: of what `iter_mut` leaves, a proof knows no element
     for (n, found) in walk.enumerate() {
         free[n] = Fingerprint {
             value: found.value,

@@ -16,6 +16,7 @@ use tokens::source::Source;
 use tokens::token::{LIMIT, Token};
 
 // A library stands for what its store holds, and its index is right for the hash.
+// A struct around the store, whose fields `run` has to see: a model hides which lists a library holds.
 #[derive(Drop)]
 pub struct Library<'a, 'b, H: GramHash> {
     store: Store<'a, 'b, H>,
@@ -40,7 +41,7 @@ pub(crate) fn capped(len: usize) -> usize
 }
 
 impl<'a, 'b, H: GramHash> Library<'a, 'b, H> {
-    ghost use Rattle.library.specs.Stores.{Opened, Kept, Told};
+    ghost use Rattle.library.specs.Stores.{Opened, Kept, Told, Shape};
 
     // A library that holds no file, over the first 1,048,576 entries of these lists.
     pub fn open(
@@ -48,7 +49,8 @@ impl<'a, 'b, H: GramHash> Library<'a, 'b, H> {
         tokens: &'a mut [Token],
         index: &'b mut [Fingerprint<H::Value>],
     ) -> Library<'a, 'b, H>
-        ensures { Opened H.GramHash.value H.Value.Ord.cmp plan.k plan.t tokens.old index.old result }
+        ensures opened { Opened H.GramHash.value H.Value.Ord.cmp plan.k plan.t tokens.old index.old result }
+        ensures shape { Shape result }
     {
         let room = capped(tokens.len());
         let places = capped(index.len());
@@ -66,6 +68,7 @@ impl<'a, 'b, H: GramHash> Library<'a, 'b, H> {
     ) -> Result<Added, Refusal>
         ensures told { Told H.GramHash.value H.Value.Ord.cmp self.old self.new (add number (S.Source.tokens source) (S.Source.ending source) (length work.old)) (added result) }
         ensures kept { Kept self.old self.new }
+        ensures shape { Shape self.new }
         ensures work { WorkKept result work.old work.new }
     {
         self.store.add(number, source, work)
@@ -75,20 +78,23 @@ impl<'a, 'b, H: GramHash> Library<'a, 'b, H> {
     pub fn remove(&mut self, number: u16) -> Result<(), Refusal>
         ensures told { Told H.GramHash.value H.Value.Ord.cmp self.old self.new (remove number) (removed result) }
         ensures kept { Kept self.old self.new }
+        ensures shape { Shape self.new }
     {
         self.store.remove(number)
     }
 
     // Writes the numbers of the held files into the list, in order of the Adds, and answers how many they are.
     pub fn held(&self, list: &mut [u16]) -> Result<usize, Refusal>
-        ensures { Told H.GramHash.value H.Value.Ord.cmp self.now self.now (held (length list.old)) (listed result list.new) }
+        ensures told { Told H.GramHash.value H.Value.Ord.cmp self.now self.now (held (length list.old)) (listed result list.new) }
+        ensures shape { Shape self.now }
     {
         self.store.held(list)
     }
 
     // Writes the passages of a held file with all others into the list, and counts its pairs.
     pub fn report(&self, number: u16, list: &mut [Passage]) -> Result<Reported, Refusal>
-        ensures { Told H.GramHash.value H.Value.Ord.cmp self.now self.now (report number (length list.old)) (reported result list.new) }
+        ensures told { Told H.GramHash.value H.Value.Ord.cmp self.now self.now (report number (length list.old)) (reported result list.new) }
+        ensures shape { Shape self.now }
     {
         self.store.report(number, list)
     }

@@ -25,6 +25,7 @@ impl<H> Plan<H> {
     pub fn new(k: usize, t: usize) -> Result<Plan<H>, Refusal>
         ensures { MatchResult result (Planned k t) (Unplanned k t) }
     {
+        // k is asked as in `Winnowing::new`, since a plan is refused by a `Reason`.
         if k < 1 || k > 64 {
             return Err(Refusal::plain(Reason::GramLength));
         }

@@ -87,6 +87,7 @@ pub fn run<H: GramHash, S: Source + Drop>(
     ensures { MatchResult result (λ v. Ran (setting_over H.GramHash.value H.Value.Ord.cmp plan.k plan.t (length tokens.old) (length index.old)) (map (asked S.Source.tokens S.Source.ending) calls.items) (map shown v.items) tokens.old tokens.new index.old index.new) (λ _. (tokens.new ≡ tokens.old) × (index.new ≡ index.old)) }
 {
     let mut answers = Vec::with_capacity(heap, calls.len())?;
+    // The lists are cut as `Library::open` cuts them, which hides the lists and so cannot be called here.
     let room = capped(tokens.len());
     let places = capped(index.len());
     run_over(

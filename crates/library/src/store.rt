@@ -14,7 +14,7 @@ use tokens::token::Token;
 #[derive(Drop)]
 pub struct Store<'a, 'b, H: GramHash> {
     pub tokens: &'a mut [Token],
-    // how many entries of the token list are used
+    // how many entries of the token list are used; a count beside it, since the list is lent
     pub used: usize,
     pub table: ArrayVec<Entry, 64>,
     // the index is a slice and a count and no `OrderedList`: a field of that type over a record of a type parameter is not supported

@@ -15,10 +15,7 @@ use tokens::source::Source;
 use tokens::token::{Class, Token};
 
 pub fn plan<H>(k: usize, t: usize) -> Result<Plan<H>, Fail> {
-    match Plan::new(k, t) {
-        Ok(plan) => Ok(plan),
-        Err(_) => Err(Fail::new("the plan is refused")),
-    }
+    Plan::new(k, t).map_err(|_| Fail::new("the plan is refused"))
 }
 
 // What a lent list holds before is free.
@@ -76,7 +73,7 @@ pub fn passage_list(heap: Global, n: usize) -> Result<Vec<Passage>, AllocError> 
     vec![in heap; any; n]
 }
 
-// Reason, place and depth of a refusal, and zeros of another answer.
+// Reason, place and depth of a refusal, and zeros of another answer. Zeros and no `Option`, so that the cases are rows of numbers.
 pub fn refusal<T: Drop>(answer: Result<T, Refusal>) -> [u32; 3] {
     match answer {
         Ok(_) => [0; 3],
@@ -144,7 +141,7 @@ pub fn add_64(
     Ok(())
 }
 
-// The numbers from `from` up to, without, `to`, without one of them.
+// The numbers from `from` up to, without, `to`, without one of them; 0, which no file has, leaves out none.
 pub fn all_but(heap: Global, from: u16, to: u16, without: u16) -> Result<Vec<u16>, Fail> {
     let mut list = Vec::new(heap);
     for number in from..to {
@@ -169,7 +166,8 @@ pub fn holds<H: GramHash>(
     Ok(())
 }
 
-// Other, left, right and len of a passage, and its bytes here and there.
+// Other, left, right and len of a passage, and its bytes here and there. As a row, which is shorter to read than a `Passage` with its
+// names.
 pub fn numbers(passage: &Passage) -> [u32; 8] {
     [
         u32::from(passage.other),

@@ -44,7 +44,8 @@ fn a_refrain_is_reported_from_both_sides(rt: HostRuntime) -> Result<(), Fail> {
     refrain_in(&rt, heap, &mut library)
 }
 
-// Puts n bytes of filler behind a file, drawn from the alphabet in no order.
+// Puts n bytes of filler behind a file, drawn from the alphabet in no order. Three lines, and so no crate for this generator and that of
+// other tests.
 fn fill(file: &mut Vec<u8>, alphabet: &[u8; 16], n: usize) -> Result<(), AllocError> {
     let mut state = 1u64;
     for _ in 0..n {

@@ -9,7 +9,7 @@ use std::test::Fail;
 use tokens::prose::Prose;
 use tokens::token::Token;
 
-// A call with the length of the list that it is handed.
+// A call with the length of the list that it is handed. No `Call`, since that owns its list, and the table is read twice.
 #[derive(Clone, Copy)]
 enum Ask<'a> {
     Add(u16, &'a [u8]),
@@ -48,7 +48,8 @@ fn calls<'a>(
     Ok(list)
 }
 
-// The counts of a granted call behind 2 for Add, 3 for Remove, 4 for Report and 6 for Held; 0 and the reason of a refused one.
+// The counts of a granted call behind 2 for Add, 3 for Remove, 4 for Report and 6 for Held; 0 and the reason of a refused one. A row is
+// shorter to read than an answer with its names.
 fn row(answer: &Answer) -> [u64; 4] {
     match answer {
         Answer::Added(Ok(added)) => [2, added.tokens as u64, added.prints as u64, 0],
@@ -87,6 +88,7 @@ fn list_is(
     }
 }
 
+// The same of the list of a Held, whose entries are numbers.
 fn held_are(rt: &impl Abort, answers: &[Answer], at: usize, entries: &[u16]) -> Result<(), Fail> {
     match answers.get(at) {
         Some(Answer::Held(_, list)) => {

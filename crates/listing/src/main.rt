@@ -32,6 +32,7 @@ enum Stop {
     Io,
 }
 
+// The error is printed by hand, since one that `main` answers is printed without the program's name.
 fn main(rt: HostRuntime) -> ExitCode {
     match run(&rt) {
         Ok(()) => ExitCode::SUCCESS,

@@ -4,7 +4,7 @@ ghost use Rattle.model.specs.Refusals.{reason_number, plain, handed_on, of_cause
 
 use tokens::token::{Cause, Fault};
 
-// The causes of faults, 1 to 9, and the reasons of the calls' own, by the numbers that are answered.
+// One enum of all reasons, the causes of faults again, 1 to 9, and those of the calls, since every refusal is answered by one number.
 #[derive(Clone, Copy, PartialEq, Eq, Debug)]
 pub enum Reason {
     TooLong = 1,
@@ -53,7 +53,7 @@ impl From<Reason> for u8 {
     }
 }
 
-// A refusal: its reason, and the place and the depth of the fault, if it is one.
+// A refusal: its reason, and the place and the depth of the fault, if it is one, else 0. What is answered are three numbers in either case.
 #[derive(Clone, Copy, PartialEq, Eq, Debug)]
 pub struct Refusal {
     pub reason: Reason,
@@ -74,7 +74,7 @@ impl Refusal {
     }
 }
 
-// A cause as a reason, under the same number.
+// A cause as a reason, under the same number. Case by case, since the way over the number could fail.
 impl From<Cause> for Reason {
     ghost from_gives = { λ c r. r ≡ of_cause c };
 

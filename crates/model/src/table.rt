@@ -18,6 +18,7 @@ pub struct Spot {
 }
 
 // Where the first file of that number stands.
+// A loop and no map: the table lies in the library itself, and `start` is the sum of the lengths before.
 pub fn find(table: &[Entry], number: u16) -> Option<Spot>
     requires { extent table.now < 2 ^ 64 }
     ensures { MatchOption result (Absent number table.now) (At number table.now) }

@@ -11,6 +11,7 @@ pub trait Order: Ord + Copy {
     ghost total: { TotalOrder Self.cmp };
 }
 
+// One impl for each kind of number: a generic one would want a trait with as many impls.
 impl Order for u16 {
     ghost total = { numbers };
 }

@@ -46,6 +46,7 @@ fn write_larger<T: Order>(xs: &mut [T], w: usize, x: T, y: T) -> Ordering
 
 // Merges the first a records with b others that stand at `at` and on, largest first, so that no record is written over before it is read.
 // Of two equal ones one is kept. By places and no iterator, since each comparison says in which list the next step is.
+// The counts are in no struct, here and in `join`, since each call has others.
 fn merge<T: Order>(xs: &mut [T], a: usize, b: usize, at: usize) -> usize
     requires apart { a + b ≤ at }
     requires within { at + b ≤ length xs.old }
@@ -181,12 +182,21 @@ fn take_in<T: Order>(xs: &mut [T], n: usize, m: usize) -> usize
     join(xs, n, b, n + m)
 }
 
+// As far as the part reaches that an insertion of m records behind n uses: m entries past them, or all that are there.
+fn reach(len: usize, n: usize, m: usize) -> usize
+    requires { n + m ≤ len }
+    ensures within { (n + m ≤ result) × (result ≤ len) × (result ≤ n + m + m) }
+    ensures room { n + m + m ≤ len → result ≡ n + m + m }
+{
+    n + m + m.min(len - (n + m))
+}
+
 // The m records behind the first n, which rise, become part of the list in one go, and the answer is how many there are then: of equal
 // records one is kept. Where another m entries are free they serve as room; the entries past these are untouched.
 pub fn insert_all<T: Order>(list: &mut [T], n: usize, m: usize) -> usize
     requires { n + m ≤ length list.old }
     ensures { AllIn T.Ord.cmp list.old list.new n m result }
 {
-    let end = n + m + m.min(list.len() - (n + m));
+    let end = reach(list.len(), n, m);
     take_in(&mut list[..end], n, m)
 }

@@ -24,6 +24,7 @@ pub struct OrderedList<'a, T: Order> {
     pub ghost rises: { Rising T.Ord.cmp (take count entries.now) } by { rising_prop T.Ord.cmp (take count entries.now) },
 }
 
+// Each method that writes says that the list is as long as before and the one that was lent. No ghost field can: it sees one state alone.
 impl<'a, T: Order> OrderedList<'a, T> {
     // A list of no records, over free entries.
     pub fn new(entries: &'a mut [T]) -> OrderedList<'a, T>

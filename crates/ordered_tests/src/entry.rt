@@ -1,4 +1,5 @@
 // A record of three fields, ordered by its fields in turn, with its first field as a key.
+// A record of its own, since those of the library are in crates above the list.
 ghost use Rattle.order.specs.Orders.{numbers, order_both, order_by};
 ghost use Rattle.order.specs.Total.{by_both};
 ghost use Rattle.ordered.proofs.Keys.{leading};

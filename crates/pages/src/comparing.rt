@@ -84,10 +84,7 @@ fn comparison<'a>(
 pub fn compared<'a>(heap: Global, left: &'a [u8], right: &'a [u8]) -> Result<Vec<Answer>, Stop>
     ensures { MatchResult result (λ v. map shown v.items ≡ outcomes plan [] (calls left.now right.now)) (λ e. e ≡ Memory) }
 {
-    let plan = match Plan::<Polynomial>::new(3, 5) {
-        Ok(plan) => plan,
-        Err(refusal) => return Err(Stop::Plan(refusal)),
-    };
+    let plan = Plan::<Polynomial>::new(3, 5).map_err(Stop::Plan)?;
     let mut tokens = vec![in heap; Token::default(); 4096]?;
     let blank = Fingerprint {
         value: 0u32,

@@ -8,6 +8,7 @@ use model::fingerprint::Fingerprint;
 use order::Order;
 
 // How many entries of the value come first.
+// This count and the two below are chains of their own, since a function over their tests would be the same two methods again.
 fn value_first<V: Order>(prints: &[Fingerprint<V>], value: V) -> usize
     ensures count { result ≡ prefix_len (λ y. is_eq (V.Ord.cmp y.value value)) prints.now }
     ensures within { result ≤ length prints.now }

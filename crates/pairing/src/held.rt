@@ -31,9 +31,6 @@ impl<'a> HeldFiles<'a> {
     pub fn tokens_or_none(&self, number: u16) -> &'a [Token]
         ensures { result.now ≡ tokens_of number (held_files self.now) }
     {
-        match self.tokens_of(number) {
-            Some(tokens) => tokens,
-            None => &self.tokens[0..0],
-        }
+        self.tokens_of(number).unwrap_or(&[])
     }
 }

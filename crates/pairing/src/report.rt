@@ -60,6 +60,7 @@ impl Tally<'_> {
 
     // Walks over the index, group by group. By places, and no `for` over `chunk_by`: of slices of a generic record, which that hands out,
     // the check can't state such a loop.
+    // That the index rises is a premise here, since the store that lends it does not know it; the library's invariant does.
     fn walk<V: Order>(&mut self, scope: Scope, index: &[Fingerprint<V>]) -> Result<(), ListFull>
         ensures same_reference { self.new.list.ghost_name ≡ self.old.list.ghost_name }
         ensures long { length self.new.list.now ≡ length self.old.list.now }

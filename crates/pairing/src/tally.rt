@@ -9,6 +9,7 @@ use model::passage::Passage;
 
 // The first entries of the report's list are the passages, how many `counts` says, and rise; the others are free. The list stands here
 // itself and in no `OrderedList`, since what a list in a struct in a struct holds when these end is not known to who lent it.
+// Its methods say that the list is as long as before and the one that was lent. No ghost field can: it sees one state alone.
 #[derive(Drop)]
 pub struct Tally<'a> {
     pub list: &'a mut [Passage],

@@ -16,6 +16,7 @@ enum Stop {
     Output,
 }
 
+// The error is printed by hand, since one that `main` answers is printed without the program's name.
 fn main(rt: HostRuntime) -> ExitCode {
     match run(&rt) {
         Ok(()) => ExitCode::SUCCESS,
@@ -29,6 +30,7 @@ fn main(rt: HostRuntime) -> ExitCode {
 fn run(rt: &HostRuntime) -> Result<(), Stop> {
     let left = fs::read(rt, "left.txt").ok();
     let right = fs::read(rt, "right.txt").ok();
+    // `page` promises that it stops for want of memory alone
     let page = page(rt.alloc(), left, right).map_err(|_| Stop::Memory)?;
     rt.stdout()
         .write_all(page.as_slice())

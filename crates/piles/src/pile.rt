@@ -33,12 +33,13 @@ impl Reader {
 #[derive(Clone, Copy, Debug, PartialEq, Eq)]
 pub enum Layer {
     Case,
+    // by the number of a class, as `DropClass` is made
     Drop(u8),
     Names,
 }
 
 impl Layer {
-    // This layer over a list.
+    // This layer over a list, which it reads to its end: the layers are known only when the program runs, so each has to hand on one type.
     fn over(self, heap: Global, below: Collected) -> Result<Collected, AllocError>
         ensures { IfOk result (λ c. stream c ≡ put_on self (stream below)) }
     {

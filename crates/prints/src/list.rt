@@ -8,7 +8,7 @@ use crate::hash::GramHash;
 use crate::walk::{Codes, Winnow};
 use crate::window::Placed;
 use crate::winnowing::Winnowing;
-use std::alloc::{AllocError, Global};
+use std::alloc::{AllocError, AllocFailed, Global};
 use std::error::Error;
 use std::fmt;
 
@@ -27,6 +27,7 @@ pub enum Unfit {
     Memory,
 }
 
+// Both written out, since a derived `From` has no contract, and `fingerprints` says what `?` makes of a failed allocation.
 impl From<AllocError> for Unfit {
     ghost from_gives = { λ _ r. r ≡ Memory };
 
@@ -35,6 +36,15 @@ impl From<AllocError> for Unfit {
     }
 }
 
+impl<T: Drop> From<AllocFailed<T>> for Unfit {
+    ghost from_gives = { λ _ r. r ≡ Memory };
+
+    fn from(_: AllocFailed<T>) -> Unfit {
+        Unfit::Memory
+    }
+}
+
+// Written out, so that the crate rests on `order` alone.
 impl fmt::Display for Unfit {
     fn fmt<W: fmt::Write>(&self, f: &mut fmt::Formatter<W>) -> fmt::Result {
         f.write_str(match self {
@@ -63,6 +73,7 @@ fn all_codes(codes: &[u16]) -> bool
 }
 
 // The chosen places of these codes in rising order, each with its value: grams of k codes, windows of w values.
+// k and w are numbers, and no `Winnowing`, since to refuse them is part of the answer.
 pub fn fingerprints<H: GramHash>(
     heap: Global,
     codes: &[u16],

@@ -18,7 +18,7 @@ pub trait Codes {
     fn len(&self) -> usize
         ensures { result ≡ length (codes self.now) };
 
-    // The code at a place, and 0 past the end.
+    // The code at a place, and 0 past the end: the first gram is read into 64 places, and those past its k are not used.
     fn code(&self, i: usize) -> u16
         ensures { result ≡ slice_index (codes self.now) i };
 }

@@ -14,14 +14,14 @@ pub struct Placed<V> {
 
 // Values come in blocks of one for each slot. The slots hold the values of this block as they came; of the block before, each slot
 // that is not yet written over holds the best from its place to that block's end. So a window is the rest of a block and the front of
-// the next, and each value is compared three times.
+// the next, and each value is compared three times. The slots are lent, since a walk allocates nothing.
 #[derive(Drop)]
 pub struct WindowQueue<'a, V> {
     slots: &'a mut [Placed<V>],
     taken: usize,
     // the best of this block's values
     back: Option<Placed<V>>,
-    // whether there was a block before
+    // whether there was a block before; a flag alone, since what it left stands in the slots
     wrapped: bool,
     ghost room: { taken < length slots.now },
 }

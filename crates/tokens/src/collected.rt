@@ -7,7 +7,8 @@ use crate::token::{Fault, Token};
 use std::alloc::Global;
 use std::vec::IntoIter;
 
-// The tokens that a source had to come, with its ending and its depth.
+// The tokens that a source had to come, with its ending and its depth. `shallow` is said, though it holds of every `u8`,
+// since `lawful` is not told the range of a field; `placed` is a test, since its definition goes by recursion over the list.
 #[derive(Drop)]
 pub struct Collected {
     pub list: IntoIter<Token, Global>,

@@ -32,7 +32,7 @@ impl From<Class> for u8 {
     }
 }
 
-// A token covers the bytes of the file from `from` up to, without, `to`.
+// A token covers the bytes of the file from `from` up to, without, `to`. The two stand alone, since most readers ask for one of them.
 #[derive(Clone, Copy, PartialEq, Eq, Default, Debug)]
 pub struct Token {
     pub code: u16,
@@ -60,7 +60,8 @@ impl Token {
     }
 }
 
-// Why a source's list ends early. The causes from `Fifth` on are for sources of other crates.
+// Why a source's list ends early. The causes from `Fifth` on are for sources of other crates: all sources answer one type, so that two can
+// be summed.
 #[derive(Clone, Copy, PartialEq, Eq, Debug)]
 pub enum Cause {
     TooLong = 1,
