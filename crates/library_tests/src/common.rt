@@ -38,26 +38,20 @@ pub fn index_list<H: GramHash>(
     heap: Global,
     n: usize,
 ) -> Result<Vec<Fingerprint<H::Value>>, AllocError> {
-    let mut list = Vec::new(heap);
-    for _ in 0..n {
-        list.push(Fingerprint {
-            value: any_value::<H>(),
-            file: 0,
-            place: 0,
-        })?;
-    }
-    Ok(list)
+    let any = Fingerprint {
+        value: any_value::<H>(),
+        file: 0,
+        place: 0,
+    };
+    vec![in heap; any; n]
 }
 
 pub fn work_list<H: GramHash>(heap: Global, n: usize) -> Result<Vec<Placed<H::Value>>, AllocError> {
-    let mut list = Vec::new(heap);
-    for _ in 0..n {
-        list.push(Placed {
-            place: 7,
-            value: any_value::<H>(),
-        })?;
-    }
-    Ok(list)
+    let any = Placed {
+        place: 7,
+        value: any_value::<H>(),
+    };
+    vec![in heap; any; n]
 }
 
 pub fn passage_list(heap: Global, n: usize) -> Result<Vec<Passage>, AllocError> {
@@ -87,13 +81,10 @@ pub fn refusal<T: Drop>(answer: Result<T, Refusal>) -> [u32; 3] {
 
 // What a call is granted.
 pub fn granted<T: Drop>(answer: Result<T, Refusal>) -> Result<T, Fail> {
-    match answer {
-        Ok(granted) => Ok(granted),
-        Err(refusal) => {
-            let number = u8::from(refusal.reason);
-            Err(Fail::new(format_args!("refused by {number}")))
-        }
-    }
+    answer.map_err(|refusal| {
+        let number = u8::from(refusal.reason);
+        Fail::new(format_args!("refused by {number}"))
+    })
 }
 
 // Takes in a file, with as large a work list as any plan wants, and answers how many tokens and chosen places it has.
@@ -143,13 +134,7 @@ pub fn add_64(
 
 // The numbers from `from` up to, without, `to`, without one of them; 0, which no file has, leaves out none.
 pub fn all_but(heap: Global, from: u16, to: u16, without: u16) -> Result<Vec<u16>, Fail> {
-    let mut list = Vec::new(heap);
-    for number in from..to {
-        if number != without {
-            list.push(number)?;
-        }
-    }
-    Ok(list)
+    Ok((from..to).filter(|number| *number != without).collect(heap)?)
 }
 
 // That these and no others are held, in this order.

@@ -25,12 +25,11 @@ fn shared_with(
     library: &Library<'_, '_, Polynomial>,
     numbers: &[u16],
 ) -> Result<(), Fail> {
-    let mut passages = Vec::new(heap);
-    for number in numbers {
-        if *number != 1 {
-            passages.push([u32::from(*number), 0, 0, 2, 0, 2, 0, 2])?;
-        }
-    }
+    let passages: Vec<[u32; 8]> = numbers
+        .iter()
+        .filter(|number| **number != 1)
+        .map(|number| [u32::from(*number), 0, 0, 2, 0, 2, 0, 2])
+        .collect(heap)?;
     let pairs = passages.len() as u64;
     assert_eq!(rt;
         reports(rt, heap, library, 1, passages.as_slice())?,

@@ -4,10 +4,7 @@ use prints::polynomial::Polynomial;
 
 // The number of the refusal, if the plan is refused.
 fn refusal(k: usize, t: usize) -> Option<u8> {
-    match Plan::<Polynomial>::new(k, t) {
-        Ok(_) => None,
-        Err(refusal) => Some(u8::from(refusal.reason)),
-    }
+    Plan::<Polynomial>::new(k, t).err().map(|refusal| u8::from(refusal.reason))
 }
 
 #[test]

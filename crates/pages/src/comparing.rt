@@ -19,7 +19,8 @@ use std::alloc::{AllocError, Global};
 use tokens::prose::Prose;
 use tokens::token::Token;
 
-// Why two files could not be compared.
+// Why two files could not be compared. `Plan` is never answered, as the contract of `compared` says, since 3 and 5 are a plan;
+// to hand it on is plainer than an `unreachable()` in its place.
 #[derive(Drop)]
 pub enum Stop {
     Memory,
