@@ -134,7 +134,11 @@ pub fn add_64(
 
 // The numbers from `from` up to, without, `to`, without one of them; 0, which no file has, leaves out none.
 pub fn all_but(heap: Global, from: u16, to: u16, without: u16) -> Result<Vec<u16>, Fail> {
-    Ok((from..to).filter(|number| *number != without).collect(heap)?)
+    Ok(
+        (from..to)
+            .filter(|number| *number != without)
+            .collect(heap)?,
+    )
 }
 
 // That these and no others are held, in this order.

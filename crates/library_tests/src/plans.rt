@@ -4,7 +4,9 @@ use prints::polynomial::Polynomial;
 
 // The number of the refusal, if the plan is refused.
 fn refusal(k: usize, t: usize) -> Option<u8> {
-    Plan::<Polynomial>::new(k, t).err().map(|refusal| u8::from(refusal.reason))
+    Plan::<Polynomial>::new(k, t)
+        .err()
+        .map(|refusal| u8::from(refusal.reason))
 }
 
 #[test]
