@@ -3,7 +3,7 @@ use Rattle.std.specs.Prelude.{◌≡◌, ◌<◌, ◌⊎◌, refl}
 use Rattle.std.specs.declared.cmp.Ordering.TheVariants.{Less, Equal, Greater}
 use Rattle.std.specs.declared.cmp.Ordering.{Ordering}
 use Rattle.std.proofs.Common.{sym, ap, ap₂, subst, ◌∙◌, inl, inr, ⊎_elim, arith}
-use Rattle.std.specs.Cmp.{ranks, nat_cmp_total}
+use Rattle.std.specs.Cmp.{ranks, nat_cmp_total, IsTotalOrder}
 use Rattle.std.specs.Ordering.{ordering_reverse, ordering_then, MatchOrdering, nat_cmp}
 use Rattle.order.specs.Total.{TotalOrder, by_both, by_key}
 use Rattle.order.specs.Compared.{less≢greater, less≢equal, by_answer}
@@ -61,3 +61,7 @@ order_by p key one = record {
   flip = λ x y. p.flip (key x) (key y);
   trans = λ x y z. p.trans (key x) (key y) (key z);
 }
+
+-- the laws that std asks of an `Ord`
+pub std_total : {V : Type 0} {cmp : V → V → Ordering} → TotalOrder cmp → IsTotalOrder cmp
+std_total {cmp = cmp} o = record { antisymm = o.flip; trans = o.trans; congr = λ x y z e. ap (λ v. cmp v z) (o.equal x y e) }
