@@ -10,7 +10,7 @@ use crate::store::Store;
 use filling::entries::{close_gap, wipe};
 use model::refusal::{Reason, Refusal};
 use model::table::{Spot, find};
-use ordered::edit::remove_all;
+use ordered::edit::remove_where;
 use prints::hash::GramHash;
 use tokens::token::Token;
 
@@ -31,7 +31,7 @@ impl<H: GramHash> Store<'_, '_, H> {
         requires { At number self.old.table.items spot }
         ensures { TakenOut H.Value.Ord.cmp (state self.old) (state self.new) number spot }
     {
-        self.prints = remove_all(self.index, self.prints, |x| x.file == number);
+        self.prints = remove_where(self.index, self.prints, |x| x.file == number);
         close_tokens(self.tokens, spot.start, spot.len, self.used);
         self.table.remove(spot.slot);
         self.used -= spot.len;

@@ -1,8 +1,7 @@
 -- A rising list with one record more, or without one or those that a test names. Assumes nothing.
 use Rattle.std.proofs.Common.{◌≡◌, ◌≢◌, ℕ, suc, ◌+◌, ◌-◌, ◌<◌, ◌≤◌, Bool, false, not, ◌⊎◌, List, [], ◌∷◌, ◌++◌, length, get_or, take, drop, set, Ok, Err, filter, Result, Ordering, Less, Greater, sym, refl, ap, ◌∙◌, subst, inl, inr, ⊎_elim, add-one, arith, MatchResult, IfErr}
 use Rattle.std.specs.List.{insert, remove}
-use Rattle.std.specs.Ordering.{is_lt, ordering_reverse, ordering_index}
-use Rattle.std.specs.List.Sorted.{IsNonDecreasingBy, IsSearchInRange, IsBinarySearchResult}
+use Rattle.std.specs.Ordering.{is_lt, ordering_reverse}
 use Rattle.std.proofs.lemmas.List.{take-append-drop, length-drop, length-take, length-take-le, length-set, get_or-take, get_or-drop, take_more, take_more_set, drop_more, drop-set-lt}
 use Rattle.std.proofs.lemmas.Bool.{not-true, not_from_false}
 use Rattle.order.specs.Total.{TotalOrder}
@@ -16,7 +15,7 @@ use Rattle.ordered.specs.declared.insertion.Insertion.{Insertion}
 use Rattle.ordered.specs.declared.insertion.Insertion.TheVariants.{At, Present, Full}
 use Rattle.ordered.specs.Answers.{AfterInsert, more}
 use Rattle.ordered.specs.Found.{Cut, Seat, Stands}
-use Rattle.ordered.proofs.Places.{steady_index, steady_at, cut_lower, cut_not_less}
+use Rattle.ordered.proofs.Places.{cut_lower, cut_upper, cut_not_less}
 use Rattle.ordered.proofs.Moves.{put_front, put_rest, out_front, out_rest}
 use Rattle.ordered.specs.Edited.{PutIn, Already, Missed, TakenOut, Fewer, Thinned}
 use Rattle.std.specs.Fn.{Called, AlwaysReturns, Mut}
@@ -77,18 +76,13 @@ module _ {X : Type 0} {cmp : X → X → Ordering} (o : TotalOrder cmp) where
     pub not_below_cut : (y : X) → In y (drop i xs) → cmp y x ≡ Less → ⊥
     not_below_cut = each_drop (λ y. cmp y x ≡ Less → ⊥) i xs (λ k d h l. cut_not_less (λ y. cmp y x) (cut_steady x) xs c i f k d h l)
 
-  -- what std's binary search answers on a rising list
-  module _ (xs : List X) (x : X) where
-    answers_rise : Rising cmp xs → IsNonDecreasingBy (λ y. ordering_index (cmp y x)) xs
-    answers_rise c i j d h k = steady_index _ _ (steady_at (λ y. cmp y x) (cut_steady x) xs c i j d h k)
+    -- and what stands from its place on is greater, unless x stands there
+    pub above_cut : (i < length xs → (d : X) → get_or xs i d ≡ x → ⊥) → (y : X) → In y (drop i xs) → cmp x y ≡ Less
+    above_cut gone = each_drop (λ y. cmp x y ≡ Less) i xs (λ k d h l. greater_less x (get_or xs k d) (cut_upper (λ y. cmp y x) (cut_steady x) xs c i f k d (λ lt e. gone lt d (o.equal (get_or xs i d) x e)) h l))
 
-    pub found : (r : Result ℕ ℕ) → IsSearchInRange r (length xs) → IsBinarySearchResult (λ y. cmp y x) xs r → MatchResult r (λ i. Stands xs i x) (λ i. Seat cmp xs i x)
-    found (Ok i) b h = (b, λ d. o.equal (get_or xs i d) x (h d))
-    found (Err i) b h = record {
-      within = b;
-      below = λ c. each_take (λ y. cmp y x ≡ Less) i xs (λ k d lt l. (h (answers_rise c)).0 k d (omega arith) lt);
-      above = λ c. each_drop (λ y. cmp x y ≡ Less) i xs (λ k d le l. greater_less x (get_or xs k d) ((h (answers_rise c)).1 k d le l));
-    }
+  -- the place of a search for x, where x does not stand, is where it would be put in
+  pub seat : (xs : List X) (i : ℕ) (x : X) → Cut (λ y. is_lt (cmp y x)) xs i → (i < length xs → (d : X) → get_or xs i d ≡ x → ⊥) → Seat cmp xs i x
+  seat xs i x f gone = record { within = f.within; below = λ c. below_cut xs i x c f; above = λ c. above_cut xs i x c f gone }
 
   module _ (xs : List X) (i : ℕ) (x : X) (s : Seat cmp xs i x) (c : Rising cmp xs) where
     pub not_there : In x xs → ⊥

@@ -4,8 +4,8 @@ use Rattle.std.proofs.lemmas.List.{get_or_read}
 use Rattle.std.proofs.lemmas.Bool.{cases_eq, cases_lt, true≢false}
 use Rattle.order.specs.Listed.{Rising}
 use Rattle.order.proofs.Bridges.{in_at}
-use Rattle.order.specs.Compared.{by_answer, less≢equal, less≢greater}
-use Rattle.std.specs.Ordering.{is_lt, is_le, ordering_index, ordering_reverse}
+use Rattle.order.specs.Compared.{by_answer, less≢greater}
+use Rattle.std.specs.Ordering.{is_lt, is_le}
 use Rattle.ordered.specs.Found.{Steady, Cut, Together}
 
 pub rising_at : {X : Type 0} (cmp : X → X → Ordering) (xs : List X) → Rising cmp xs → (i j : ℕ) (d : X) → i < j → j < length xs → cmp (get_or xs i d) (get_or xs j d) ≡ Less
@@ -30,16 +30,6 @@ not_before_last : (o : Ordering) → is_le o ≡ false → o ≡ Greater
 not_before_last Less h = absurd (true≢false h)
 not_before_last Equal h = absurd (true≢false h)
 not_before_last Greater h = refl
-
--- the numbers of the answers do not fall
-pub steady_index : (a b : Ordering) → Steady a b → ordering_index a ≤ ordering_index b
-steady_index Less b s = omega arith
-steady_index Equal Less s = absurd (less≢equal Equal (s.0 refl) refl)
-steady_index Equal Equal s = omega arith
-steady_index Equal Greater s = omega arith
-steady_index Greater Less s = absurd (less≢greater Less refl (s.1 refl))
-steady_index Greater Equal s = absurd (less≢equal Equal (ap ordering_reverse (s.1 refl)) refl)
-steady_index Greater Greater s = omega arith
 
 -- a binary search on its way: the record before `low`, if any, passes the test, and the record at `high`, if any, does not
 pub record Around {X : Type 0} (test : X → Bool) (xs : List X) (low high : ℕ) : Type 0 where
@@ -69,6 +59,11 @@ module _ {X : Type 0} {cmp : X → X → Ordering} (place : X → Ordering) (ste
 
   pub cut_not_less : (i : ℕ) → Cut (λ x. is_lt (place x)) xs i → (k : ℕ) (d : X) → i ≤ k → k < length xs → place (get_or xs k d) ≡ Less → ⊥
   cut_not_less i f k d h l e = not_before_first _ (f.next (omega arith) d) ((steady_at i k d h l).0 e)
+
+  pub cut_upper : (i : ℕ) → Cut (λ x. is_lt (place x)) xs i → (k : ℕ) (d : X) → (i < length xs → place (get_or xs i d) ≡ Equal → ⊥) → i ≤ k → k < length xs → place (get_or xs k d) ≡ Greater
+  cut_upper i f k d gone h l =
+      let lt : i < length xs = omega arith in
+      (steady_at i k d h l).1 (by_answer (place (get_or xs i d)) (λ e. absurd (not_before_first _ (f.next lt d) e)) (λ e. absurd (gone lt e)) (λ e. e))
 
   module _ (from to : ℕ) (f : Cut (λ x. is_lt (place x)) xs from) (t : Cut (λ x. is_le (place x)) xs to) where
     upper : (k : ℕ) (d : X) → to ≤ k → k < length xs → place (get_or xs k d) ≡ Greater

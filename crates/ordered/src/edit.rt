@@ -9,6 +9,14 @@ use crate::insertion::Insertion;
 use crate::search::find;
 use order::Order;
 
+// What a record may pass or fail. `holds` is the test as the proofs have it.
+pub trait Predicate<T> {
+    ghost holds: { Self → T → Bool };
+
+    fn test(&self, x: &T) -> bool
+        ensures { result ≡ holds self.now x.now };
+}
+
 // Where x stands among the first n, or in an Err where it would be put in.
 fn seat<T: Order>(list: &[T], n: usize, x: T) -> Result<usize, usize>
     requires { n ≤ length list.now }
@@ -66,7 +74,7 @@ pub fn remove<T: Order>(list: &mut [T], n: usize, x: T) -> Option<usize>
 }
 
 // Takes out of the first n all that the test names, in one pass, and answers how many are left. By hand, since only a `Vec` has `retain`.
-pub fn remove_all<T: Order, F: FnMut(&T) -> bool>(list: &mut [T], n: usize, mut test: F) -> usize
+pub fn remove_where<T: Order, F: FnMut(&T) -> bool>(list: &mut [T], n: usize, mut test: F) -> usize
     requires within { n ≤ length list.old }
     requires callable { F.IsAlwaysCallable test }
     ensures fewer { Fewer T.Ord.cmp list.old list.new n result }
@@ -82,4 +90,12 @@ pub fn remove_all<T: Order, F: FnMut(&T) -> bool>(list: &mut [T], n: usize, mut 
         left += 1;
     }
     left
+}
+
+// Takes out of the first n all that pass the test, in one pass, and answers how many are left.
+pub fn remove_all<T: Order, P: Predicate<T>>(list: &mut [T], n: usize, test: &P) -> usize
+    requires { n ≤ length list.old }
+    ensures { Thinned T.Ord.cmp (P.Predicate.holds test.now) list.old list.new n result }
+{
+    remove_where(list, n, |x| test.test(x))
 }

@@ -9,9 +9,9 @@ ghost use Rattle.ordered.specs.Gathered.{AllIn};
 ghost use Rattle.ordered.specs.Rises.{rising_prop};
 
 use crate::batch::insert_all;
-use crate::edit::{insert, remove, remove_all};
+use crate::edit::{insert, remove, remove_where};
 use crate::insertion::Insertion;
-use crate::search::{Key, find, range};
+use crate::search::{Key, Span, find, range};
 use order::Order;
 use std::ops::Range;
 
@@ -69,7 +69,8 @@ impl<'a, T: Order> OrderedList<'a, T> {
         ensures within { result.end ≤ self.now.count }
         ensures together { Together (K.Key.places key.now) (take self.now.count self.now.entries.now) result.start result.end }
     {
-        range(self.as_slice(), key)
+        let Span { from, to } = range(self.as_slice(), key);
+        from..to
     }
 
     // Puts x in at its place. An equal record is not put in twice, and without a free entry nothing is done.
@@ -121,6 +122,6 @@ impl<'a, T: Order> OrderedList<'a, T> {
         ensures room { length self.new.entries.now ≡ length self.old.entries.now }
         ensures same_reference { self.new.entries.ghost_name ≡ self.old.entries.ghost_name }
     {
-        self.count = remove_all(self.entries, self.count, test);
+        self.count = remove_where(self.entries, self.count, test);
     }
 }

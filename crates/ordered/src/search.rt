@@ -10,7 +10,6 @@ ghost use Rattle.std.proofs.Common.{rules};
 
 use order::Order;
 use std::cmp::Ordering;
-use std::ops::Range;
 
 // A leading part of the records' order. `place` says where a record stands: Less before all records of this key, Equal at them,
 // Greater after them. A trait and no closure, since each key owes the law `steady`, which a closure can't carry.
@@ -35,6 +34,13 @@ impl<T: Order> Key<T> for Exactly<T> {
     fn place(&self, x: &T) -> Ordering {
         x.cmp(&self.0)
     }
+}
+
+// The records from `from` on and before `to`. No `Range`, since that is not `Copy`.
+#[derive(Clone, Copy, PartialEq, Eq, Debug)]
+pub struct Span {
+    pub from: usize,
+    pub to: usize,
 }
 
 // The first place whose record does not pass the test. By hand, since std's `partition_point` says nothing of a list in which a record
@@ -70,18 +76,26 @@ pub fn upper_bound<T: Order, K: Key<T>>(list: &[T], key: &K) -> usize
     cut(list, |x| key.place(x).is_le())
 }
 
-// The places of the records of the key: where the list rises they stand together.
-pub fn range<T: Order, K: Key<T>>(list: &[T], key: &K) -> Range<usize>
-    ensures start { result.start ≤ length list.now }
-    ensures end { result.end ≤ length list.now }
-    ensures together { Rising T.Ord.cmp list.now → Together (K.Key.places key.now) list.now result.start result.end }
+// The records of the key: where the list rises they stand together, from `from` to before `to`.
+pub fn range<T: Order, K: Key<T>>(list: &[T], key: &K) -> Span
+    ensures within { (result.from ≤ length list.now) × (result.to ≤ length list.now) }
+    ensures together { Rising T.Ord.cmp list.now → Together (K.Key.places key.now) list.now result.from result.to }
 {
-    lower_bound(list, key)..upper_bound(list, key)
+    Span {
+        from: lower_bound(list, key),
+        to: upper_bound(list, key),
+    }
 }
 
-// Where x stands, or in an Err where it would be put in.
+// Where x stands, or in an Err where it would be put in. The place is the lower bound of x, so of equal records the first is found, which
+// std's `binary_search` does not promise.
 pub fn find<T: Order>(list: &[T], x: T) -> Result<usize, usize>
-    ensures { MatchResult result (λ i. Stands list.now i x) (λ i. Seat T.Ord.cmp list.now i x) }
+    ensures place { MatchResult result (λ i. Stands list.now i x) (λ i. Seat T.Ord.cmp list.now i x) }
+    ensures first { MatchResult result (Cut (λ y. is_lt (T.Ord.cmp y x)) list.now) (Cut (λ y. is_lt (T.Ord.cmp y x)) list.now) }
 {
-    list.binary_search(&x)
+    let place = lower_bound(list, &Exactly(x));
+    match list.get(place) {
+        Some(y) if y.cmp(&x).is_eq() => Ok(place),
+        _ => Err(place),
+    }
 }

@@ -1,12 +1,12 @@
 // The lists held against a plain model: which of the small numbers are in the list.
-ghost use Rattle.std.specs.Prelude.{◌<◌};
+ghost use Rattle.std.specs.Prelude.{◌<◌, ◌%◌, ◌==◌};
 
 #[cfg(test)]
 mod tests {
     use crate::entry::Entry;
     use crate::index::Index;
     use ordered::batch::insert_all;
-    use ordered::edit::remove_all;
+    use ordered::edit::{Predicate, remove_all, remove_where};
     use ordered::insertion::Insertion;
     use ordered::list::OrderedList;
     use std::process::Abort;
@@ -82,7 +82,19 @@ mod tests {
         insert_all(list, n, m)
     }
 
-    // Takes out the numbers that leave the rest when divided by 5.
+    #[derive(Clone, Copy)]
+    struct OfRest(u32);
+
+    // Numbers that leave the rest when divided by 5.
+    impl Predicate<u32> for OfRest {
+        ghost holds = { λ p x. (x % 5 == p.0) };
+
+        fn test(&self, x: &u32) -> bool {
+            *x % 5 == self.0
+        }
+    }
+
+    // Takes out the numbers that leave the rest when divided by 5: the odd rests by a `Predicate`, the others by a closure.
     fn take_out_rest(
         rt: &impl Abort,
         list: &mut [u32],
@@ -96,7 +108,11 @@ mod tests {
                 *held = false;
             }
         }
-        remove_all(list, n, |x| *x % 5 == rest)
+        if rest % 2 == 1 {
+            remove_all(list, n, &OfRest(rest))
+        } else {
+            remove_where(list, n, |x| *x % 5 == rest)
+        }
     }
 
     fn one_by_one_in(rt: &impl Abort, entries: &mut [u32], there: &mut [bool]) {

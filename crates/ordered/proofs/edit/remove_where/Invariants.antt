@@ -2,7 +2,7 @@ use Rattle.std.proofs.Common.{Bool, not}
 use Rattle.std.proofs.lemmas.List.Filters.{FiltersInPlace}
 use Rattle.std.specs.Fn.{ComputesKey}
 use Rattle.ordered.proofs.Edits.{Keeping}
-use Rattle.ordered.proofs.edit.remove_all.Given as goal
+use Rattle.ordered.proofs.edit.remove_where.Given as goal
 
 -- whatever the test answers, and where it answers by one function
 abbrev pub invariant-loop-i : goal.invariant-loop-i
