@@ -8,7 +8,7 @@ ghost use Rattle.clike.specs.Lexemes.{read, word_kind, lexemes};
 
 use crate::keyword::keyword_number;
 use crate::lexeme::Lexeme;
-use crate::scan::{comment_end, in_line, in_number, in_word, quoted_length, run_length};
+use crate::scan::{comment_end, in_line, in_number, in_word, length_while, quoted_length};
 use std::alloc::{AllocError, Global};
 
 // The first lexeme, and the rest of the bytes. Reads up to the first zero byte.
@@ -23,8 +23,8 @@ pub fn cut<'a>(bytes: &'a [u8]) -> (Lexeme<'a>, &'a [u8])
         '\t'..='\r' | ' ' => cut_at(bytes, 1, Lexeme::Blank),
         '/' => cut_slash(bytes),
         '"' | '\'' => cut_at(bytes, 1 + quoted_length(*b, body), Lexeme::Quoted),
-        'A'..='Z' | 'a'..='z' | '_' => cut_at(bytes, run_length(bytes, in_word), word),
-        '0'..='9' => cut_at(bytes, run_length(bytes, in_number), Lexeme::Number),
+        'A'..='Z' | 'a'..='z' | '_' => cut_at(bytes, length_while(bytes, in_word), word),
+        '0'..='9' => cut_at(bytes, length_while(bytes, in_number), Lexeme::Number),
         _ => cut_at(bytes, 1, Lexeme::Mark),
     }
 }
@@ -73,7 +73,7 @@ fn cut_slash<'a>(bytes: &'a [u8]) -> (Lexeme<'a>, &'a [u8])
             Ok(n) => cut_at(bytes, 2 + n, Lexeme::Comment),
             Err(n) => cut_at(bytes, 2 + n, Lexeme::OpenComment),
         },
-        [b'/', b'/', ..] => cut_at(bytes, run_length(bytes, in_line), Lexeme::Comment),
+        [b'/', b'/', ..] => cut_at(bytes, length_while(bytes, in_line), Lexeme::Comment),
         _ => cut_at(bytes, 1, Lexeme::Mark),
     }
 }

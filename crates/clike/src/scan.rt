@@ -2,9 +2,20 @@
 ghost use Rattle.std.specs.Prelude.{◌≡◌, ℕ, ◌≤◌, Bool, false, length};
 ghost use Rattle.std.specs.List.{prefix_len};
 ghost use Rattle.clike.specs.Lexemes.{read, in_word, in_number, in_line, quoted_on};
-ghost use Rattle.clike.specs.Scans.{Computes, comment_end, end_size};
+ghost use Rattle.clike.specs.Scans.{Computes, in_run, comment_end, end_size};
 
 use tokens::bytes::{is_digit, is_letter};
+
+// What a run consists of.
+#[derive(Clone, Copy, PartialEq, Eq, Debug)]
+pub enum Run {
+    // Letters, digits and `_`.
+    Word,
+    // Letters, digits, `_` and `.`.
+    Number,
+    // All bytes but line feeds.
+    Line,
+}
 
 // The bytes of keywords and names.
 pub fn in_word(b: u8) -> bool
@@ -28,12 +39,24 @@ pub fn in_line(b: u8) -> bool
 }
 
 // How many bytes at the front pass the test; a zero byte ends the run.
-pub fn run_length<F: Fn(u8) -> bool>(bytes: &[u8], test: F) -> usize
+pub fn length_while<F: Fn(u8) -> bool>(bytes: &[u8], test: F) -> usize
     requires { F.IsAlwaysCallable test }
     ensures count { (p : ℕ → Bool) → Computes (F.post test) p → result ≡ prefix_len p (read bytes.now) }
     ensures bound { result ≤ length bytes.now }
 {
     bytes.iter().take_while(|b| **b != 0 && test(**b)).count()
+}
+
+// How many bytes the longest run at the front has.
+pub fn run_length(run: Run, bytes: &[u8]) -> usize
+    ensures count { result ≡ prefix_len (in_run run) (read bytes.now) }
+    ensures bound { result ≤ length bytes.now }
+{
+    match run {
+        Run::Word => length_while(bytes, in_word),
+        Run::Number => length_while(bytes, in_number),
+        Run::Line => length_while(bytes, in_line),
+    }
 }
 
 // How many of the bytes after an opening quote belong to its lexeme.

@@ -17,7 +17,10 @@ fn next_are<S: Source>(
         let Ok(Some(token)) = source.next() else {
             return Err(Fail::new("the list has ended"));
         };
-        assert_eq!(rt; (token.code, token.class as u8, token.from, token.to), *row);
+        assert_eq!(rt;
+            (token.code, u8::from(token.class), token.from, token.to),
+            *row
+        );
     }
     Ok(())
 }
@@ -33,7 +36,7 @@ fn fault_is(
         return Err(Fail::new("no fault"));
     };
     assert_eq!(rt;
-        (fault.cause as u8, fault.place, fault.depth),
+        (u8::from(fault.cause), fault.place, fault.depth),
         (cause, place, 0)
     );
     Ok(())

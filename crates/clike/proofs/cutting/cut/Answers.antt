@@ -24,12 +24,12 @@ pub returns-in-A-to-Z : goal.returns-in-A-to-Z
 returns-in-A-to-Z c =
     let bytes = c.args.bytes.now in
     let b = get_or bytes 0 0 in
-    let n = c.run_length-in-A-to-Z.result in
+    let n = c.length_while-in-A-to-Z.result in
     let some : 0 < length bytes = omega arith in
     let letter : begins_word b ≡ true = grind (arith, nat_tests) in
     let made = c.cut_at-in-A-to-Z.ensures.lexeme in
     cuts bytes _ _ (word_kind (keyword_number (take n bytes))) n some (λ z. both_ways (begins_word 0) refl (subst (λ x. begins_word x ≡ true) z letter))
-    (word_read bytes n some letter (c.run_length-in-A-to-Z.ensures.count in_word (λ b r e. e))) (made.1 ∙ ap (λ run. lexeme_of (word_kind (keyword_number run)) run) made.2) c.cut_at-in-A-to-Z.ensures.rest
+    (word_read bytes n some letter (c.length_while-in-A-to-Z.ensures.count in_word (λ b r e. e))) (made.1 ∙ ap (λ run. lexeme_of (word_kind (keyword_number run)) run) made.2) c.cut_at-in-A-to-Z.ensures.rest
 
 pub returns-in-0-to-9 : goal.returns-in-0-to-9
 returns-in-0-to-9 c =
@@ -38,7 +38,7 @@ returns-in-0-to-9 c =
     let some : 0 < length bytes = omega (arith, ltb-false) in
     let low : 48 ≤ b = omega arith in
     let high : b ≤ 57 = omega arith in
-    let run = c.run_length in
+    let run = c.length_while in
     let digit : is_digit b ≡ true = grind (arith, nat_tests) in
     let made = c.cut_at-in-0-to-9.ensures.lexeme in
     cuts bytes _ _ number run.result some (λ z. omega arith) (number_read bytes run.result some digit (run.ensures.count in_number (λ b r e. e)))

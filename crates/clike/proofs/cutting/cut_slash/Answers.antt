@@ -31,10 +31,10 @@ returns-in-Err c =
 pub returns-in-47-2 : goal.returns-in-47-2
 returns-in-47-2 c =
     let bytes = c.args.bytes.now in
-    let n = c.run_length.result in
+    let n = c.length_while.result in
     let slash : get_or bytes 1 0 ≡ 47 = omega arith in
     let made = c.cut_at-in-47-2.ensures.lexeme in
-    cuts bytes _ _ comment n c.requires.some (λ z. omega arith) (line_read bytes n c.in-47-2.len_at_least c.requires.slash slash (c.run_length.ensures.count in_line (λ b r e. e)))
+    cuts bytes _ _ comment n c.requires.some (λ z. omega arith) (line_read bytes n c.in-47-2.len_at_least c.requires.slash slash (c.length_while.ensures.count in_line (λ b r e. e)))
     (ap seen made.1 ∙ ap (lexeme_of comment) made.2) c.cut_at-in-47-2.ensures.rest
 
 pub returns-in_default : goal.returns-in_default

@@ -5,7 +5,7 @@ use Rattle.std.proofs.lemmas.Iterator.Search.{YieldsList-from_take_while}
 use Rattle.std.proofs.lemmas.List.Folds.{length-prefix_len}
 use Rattle.tokens.specs.Texts.{nonzero}
 use Rattle.clike.proofs.Fronts.{read_run}
-use Rattle.clike.proofs.scan.run_length.Goals as goal
+use Rattle.clike.proofs.scan.length_while.Goals as goal
 
 pub returns-clause-count : goal.returns-clause-count
 returns-clause-count g c = λ p h.
