@@ -1,5 +1,5 @@
 -- What a file's fingerprints are, for those who call. Assumes nothing.
-use Rattle.std.proofs.Common.{◌≡◌, ℕ, ◌+◌, ◌<◌, ◌≤◌, List, [], ◌∷◌, map, length, Ordering, sym, refl, ap, ◌∙◌, subst, inl, arith}
+use Rattle.std.proofs.Common.{◌≡◌, ℕ, ◌+◌, ◌<◌, ◌≤◌, leb, List, [], ◌∷◌, map, length, filter, Ordering, sym, refl, ap, ◌∙◌, subst, inl, arith}
 use Rattle.std.specs.List.{range_with_len}
 use Rattle.std.proofs.lemmas.List.FromFn.{length-range_with_len}
 use Rattle.std.proofs.lemmas.List.{length-map}
@@ -22,6 +22,19 @@ winnowed_few hash cmp k w cs low =
     let a = length-map (chosen cmp w at n) (at_place at) in
     let b = kept_few (is_picked cmp w at n) (range_with_len 0 n) in
     let c = length-range_with_len 0 n in
+    omega arith
+
+-- nor from a place on
+pub winnowed_from_few : {V : Type 0} (hash : List ℕ → V) (cmp : V → V → Ordering) (k w : ℕ) (cs : List ℕ) (from : ℕ) → 1 ≤ k → length (winnowed_from hash cmp k w cs from) ≤ length cs
+unfolding winnowed_from
+winnowed_from_few hash cmp k w cs from low =
+    let at = value_at hash k cs in
+    let n = grams k cs in
+    let all = chosen cmp w at n in
+    let a = length-map (filter (leb from) all) (at_place at) in
+    let b = kept_few (leb from) all in
+    let c = kept_few (is_picked cmp w at n) (range_with_len 0 n) in
+    let d = length-range_with_len 0 n in
     omega arith
 
 -- those from the first place on are all

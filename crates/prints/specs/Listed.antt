@@ -1,5 +1,5 @@
 -- All chosen places of a list of codes at once. Assumes nothing.
-use Rattle.std.specs.Prelude.{◌≡◌, ℕ, ◌<◌, ◌≤◌, List, map}
+use Rattle.std.specs.Prelude.{◌≡◌, ℕ, ◌<◌, ◌≤◌, List, map, codes}
 use Rattle.std.specs.declared.cmp.Ordering.{Ordering}
 use Rattle.order.specs.Listed.{ListsExactly}
 use Rattle.prints.specs.declared.list.Unfit.{Unfit}
@@ -33,6 +33,14 @@ UnfitFor k w room cs unfit.Window = (1 ≤ k) × (k ≤ 64) × (w ≡ 0)
 UnfitFor k w room cs unfit.Work = (1 ≤ k) × (k ≤ 64) × (1 ≤ w) × (room < w)
 UnfitFor k w room cs unfit.Code = (1 ≤ k) × (k ≤ 64) × (1 ≤ w) × (w ≤ room) × (Coded cs → ⊥)
 UnfitFor k w room cs unfit.Memory = Fit k w room cs
+
+-- what is written of each reason
+abbrev pub unfit_text : Unfit → List ℕ
+unfit_text unfit.Gram = codes "k is not 1 to 64"
+unfit_text unfit.Window = codes "w is 0"
+unfit_text unfit.Work = codes "the work list is too short"
+unfit_text unfit.Code = codes "a code is not 1 to 1023"
+unfit_text unfit.Memory = codes "no memory"
 
 -- the list has exactly the chosen places, by the relation and by computation, each with the value of the gram there
 pub record ChosenListed {V : Type 0} (hash : List ℕ → V) (cmp : V → V → Ordering) (k w : ℕ) (cs : List ℕ) (list : List (Placed V)) : Type 0 where

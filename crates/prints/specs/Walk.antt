@@ -39,11 +39,12 @@ module _ {H C V : Type 0} (hash : List ℕ → V) (read : C → List ℕ) where
   abbrev pub row_of : Grams H C V → ℕ → V
   row_of x = value_at hash x.k (codes_of x)
 
-  -- it holds the value at its place, while there is a gram
+  -- it knows how many codes there are, and holds the value at its place, while there is a gram
   pub record Going (x : Grams H C V) : Type 0 where
     pub low : 1 ≤ x.k
     pub high : x.k ≤ 64
     pub coded : Coded (codes_of x)
+    pub len : x.len ≡ length (codes_of x)
     pub size : length (codes_of x) < 2 ^ 64
     pub held : MatchOption x.value (grams x.k (codes_of x) ≤ x.place) (λ v. (x.place < grams x.k (codes_of x)) × (v ≡ row_of x x.place))
 

@@ -46,6 +46,11 @@ impl<T: Drop> From<AllocFailed<T>> for Unfit {
 
 // Written out, so that the crate rests on `order` alone.
 impl fmt::Display for Unfit {
+    ghost use Rattle.std.specs.Prelude.{Some};
+    ghost use Rattle.prints.specs.Listed.{unfit_text};
+
+    ghost output = { λ e. Some (unfit_text e) };
+
     fn fmt<W: fmt::Write>(&self, f: &mut fmt::Formatter<W>) -> fmt::Result {
         f.write_str(match self {
             Unfit::Gram => "k is not 1 to 64",

@@ -1,5 +1,5 @@
 // The walk over a file's codes that hands out its chosen places.
-ghost use Rattle.std.specs.Prelude.{◌≡◌, ℕ, ◌+◌, ◌-◌, ◌^◌, ◌<◌, ◌≤◌, List, [], length, take, slice_index, MatchOption};
+ghost use Rattle.std.specs.Prelude.{◌≡◌, ℕ, ◌+◌, ◌-◌, ◌^◌, ◌<◌, ◌≤◌, List, [], length, take, slice_index, nat_lt, if◌then◌else◌, MatchOption};
 ghost use Rattle.std.specs.Iterator.{YieldsFirst, item_count};
 ghost use Rattle.prints.specs.Walk.{Going, Gave, winnowed};
 ghost use Rattle.prints.specs.Grams.{Coded, Gram, Rolls};
@@ -18,7 +18,7 @@ pub trait Codes {
     fn len(&self) -> usize
         ensures { result ≡ length (codes self.now) };
 
-    // The code at a place, and 0 past the end: the first gram is read into 64 places, and those past its k are not used.
+    // The code at a place, and 0 past the end.
     fn code(&self, i: usize) -> u16
         ensures { result ≡ slice_index (codes self.now) i };
 }
@@ -35,27 +35,36 @@ impl Codes for &[u16] {
     }
 }
 
+// The code at a place below k, and 0 from there on, where no code is asked for.
+fn code_below<C: Codes>(codes: &C, k: usize, i: usize) -> u16
+    ensures { result ≡ (if nat_lt i k then slice_index (C.Codes.codes codes.now) i else 0) }
+{
+    if i < k { codes.code(i) } else { 0 }
+}
+
 // The value of the first k codes.
 fn first_value<H: GramHash, C: Codes>(codes: &C, k: usize) -> H::Value
     requires { k ≤ 64 }
     ensures { k ≤ length (C.Codes.codes codes.now) → Gram (take k (C.Codes.codes codes.now)) → result ≡ H.GramHash.value (take k (C.Codes.codes codes.now)) }
 {
-    let gram: [u16; 64] = array::from_fn(|i| codes.code(i));
+    let gram: [u16; 64] = array::from_fn(|i| code_below(codes, k, i));
     H::of(&gram[..k])
 }
 
-// From the value of the gram at a place to that of the next, while there is one.
+// From the value of the gram at a place to that of the next, while there is one among so many codes.
 fn rolled<H: GramHash, C: Codes>(
     codes: &C,
+    len: usize,
     value: H::Value,
     k: usize,
     place: usize,
 ) -> Option<H::Value>
-    requires { place + k < 2 ^ 64 }
+    requires len { len ≡ length (C.Codes.codes codes.now) }
+    requires fits { place + k < 2 ^ 64 }
     ensures { MatchOption result (length (C.Codes.codes codes.now) ≤ place + k) (λ next. (place + k < length (C.Codes.codes codes.now)) × Rolls H.GramHash.value value k (slice_index (C.Codes.codes codes.now) place) (slice_index (C.Codes.codes codes.now) (place + k)) next) }
 {
     let behind = place + k;
-    if behind < codes.len() {
+    if behind < len {
         Some(H::roll(value, k, codes.code(place), codes.code(behind)))
     } else {
         None
@@ -66,6 +75,8 @@ fn rolled<H: GramHash, C: Codes>(
 #[derive(Drop)]
 struct Grams<H: GramHash, C: Codes> {
     codes: C,
+    // how many codes there are, asked once
+    len: usize,
     k: usize,
     place: usize,
     // the value at `place`, while there is a gram
@@ -82,32 +93,30 @@ impl<H: GramHash, C: Codes> Grams<H, C> {
         ensures k { result.k ≡ k }
         ensures place { result.place ≡ 0 }
     {
-        let value = if k <= codes.len() {
+        let len = codes.len();
+        let value = if k <= len {
             Some(first_value::<H, C>(&codes, k))
         } else {
             None
         };
         Grams {
             codes,
+            len,
             k,
             place: 0,
             value,
         }
     }
-}
 
-impl<H: GramHash, C: Codes + Drop> Iterator for Grams<H, C> {
-    type Item = Placed<H::Value>;
-
-    ghost can_next = { Going H.GramHash.value C.Codes.codes };
-
-    ghost next_gives = { Gave H.GramHash.value C.Codes.codes };
-
-    fn next(&mut self) -> Option<Placed<H::Value>> {
+    // The gram at `place`, if there is one. No `Iterator`, since that would ask `Drop` of the codes.
+    fn next(&mut self) -> Option<Placed<H::Value>>
+        requires { Going H.GramHash.value C.Codes.codes self.old }
+        ensures { Gave H.GramHash.value C.Codes.codes self.old result self.new }
+    {
         let value = self.value?;
         let place = self.place;
         self.place += 1;
-        self.value = rolled::<H, C>(&self.codes, value, self.k, place);
+        self.value = rolled::<H, C>(&self.codes, self.len, value, self.k, place);
         Some(Placed { place, value })
     }
 }
@@ -149,17 +158,11 @@ impl<'a, H: GramHash, C: Codes> Winnow<'a, H, C> {
             from: 0,
         }
     }
-}
 
-impl<H: GramHash, C: Codes + Drop> Iterator for Winnow<'_, H, C> {
-    type Item = Placed<H::Value>;
-
-    ghost next_gives = { YieldsFirst (λ s. s) };
-
-    ghost remaining = { item_count (λ s. s) };
-
-    // The next chosen place with its value.
-    fn next(&mut self) -> Option<Placed<H::Value>> {
+    // The next chosen place with its value, and nothing at the end and from then on.
+    pub fn next(&mut self) -> Option<Placed<H::Value>>
+        ensures { YieldsFirst (λ s. s) self.old result self.new }
+    {
         while let Some(here) = self.grams.next() {
             if let Some(best) = self.queue.push(here) {
                 if best.place >= self.from {
@@ -169,5 +172,32 @@ impl<H: GramHash, C: Codes + Drop> Iterator for Winnow<'_, H, C> {
             }
         }
         None
+    }
+
+    // Goes to the end, and answers how many places there were still to hand out.
+    pub fn count(&mut self) -> usize
+        ensures all { result ≡ length self.old }
+        ensures none { self.new ≡ [] }
+    {
+        // for the proof, which learns here that the codes bound the count
+        let _ = &self.from;
+        let mut n = 0;
+        while let Some(_) = self.next() {
+            n += 1;
+        }
+        n
+    }
+}
+
+// The same steps for `for`, `collect` and the other adapters, which end the walk and so ask `Drop` of the codes.
+impl<H: GramHash, C: Codes + Drop> Iterator for Winnow<'_, H, C> {
+    type Item = Placed<H::Value>;
+
+    ghost next_gives = { YieldsFirst (λ s. s) };
+
+    ghost remaining = { item_count (λ s. s) };
+
+    fn next(&mut self) -> Option<Placed<H::Value>> {
+        Winnow::next(self)
     }
 }

@@ -1,10 +1,10 @@
 use Rattle.std.proofs.Common.{◌≤◌, ◌<◌, ◌≡◌, MatchOption, refl, ap, subst}
 use Rattle.prints.specs.Walk.{grams, row_of}
 use Rattle.prints.proofs.Walks.{held_on}
-use Rattle.prints.proofs.walk.GramsIterator.next.Goals as goal
+use Rattle.prints.proofs.walk.Grams.next.Goals as goal
 
-pub returns-clause-steps : goal.returns-clause-steps
-returns-clause-steps g c =
+pub returns : goal.returns
+returns g c =
     let x = c.args.self.now in
     let cs = g.C.Codes.codes x.codes in
     let going = c.requires in
@@ -15,6 +15,7 @@ returns-clause-steps g c =
         low = low;
         high = going.high;
         coded = going.coded;
+        len = going.len;
         size = going.size;
         held = held_on cs x.k x.place low g.H.GramHash.value c.in_ok-value.value c.rolled-self.result going.high going.coded held.0 held.1 c.rolled-self.ensures;
       };
@@ -22,6 +23,3 @@ returns-clause-steps g c =
       k = refl;
       gave = (held.0, ap (λ v. record { place = x.place; value = v }) held.1, refl);
     }
-
-pub returns-clause-goes : goal.returns-clause-goes
-returns-clause-goes g c = record { on = λ e. absurd e; keeps = (returns-clause-steps g c).going; rests = λ e. absurd e }

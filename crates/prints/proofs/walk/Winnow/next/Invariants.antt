@@ -1,7 +1,7 @@
 use Rattle.std.proofs.Common.{◌-◌}
 use Rattle.prints.specs.Walk.{grams, codes_of}
 use Rattle.prints.proofs.Onward.{Leaves}
-use Rattle.prints.proofs.walk.WinnowIterator.next.Given as goal
+use Rattle.prints.proofs.walk.Winnow.next.Given as goal
 
 abbrev pub invariant-loop-here : goal.invariant-loop-here
 invariant-loop-here g l =
