@@ -80,17 +80,24 @@ impl Alignment<'_> {
         requires right { self.now.j ≤ length self.now.ys.now }
         ensures { SameBefore self.now.xs.now self.now.ys.now self.now.i self.now.j result }
     {
-        same_at_end(&self.xs[..self.i], &self.ys[..self.j])
+        // as many of each, so that the chain has one end to look for
+        let n = self.i.min(self.j);
+        same_at_end(&self.xs[self.i - n..self.i], &self.ys[self.j - n..self.j])
     }
 
     // How many tokens from i and j on are the same, none past an end.
     pub fn same_from(&self) -> usize
         ensures { SameFrom self.now.xs.now self.now.ys.now self.now.i self.now.j result }
     {
-        same_at_start(rest(self.xs, self.i), rest(self.ys, self.j))
+        // as many of each, as above
+        let (xs, ys) = (rest(self.xs, self.i), rest(self.ys, self.j));
+        let n = xs.len().min(ys.len());
+        same_at_start(&xs[..n], &ys[..n])
     }
 
     // The one longest run that holds the equal grams of k tokens at i and at j, both equally far from its starts.
+    // Never part of its caller, where the chains' places would be kept in memory and not in registers.
+    #[inline(never)]
     pub fn grow(&self, k: usize) -> Run
         requires some { 1 ≤ k }
         requires grams { SameGrams k self.now.xs.now self.now.ys.now self.now.i self.now.j }

@@ -1,5 +1,6 @@
-use Rattle.runs.proofs.Alike.{same_before_is}
+use Rattle.std.proofs.Common.{arith}
+use Rattle.runs.proofs.Alike.{same_before_cut}
 use Rattle.runs.proofs.longest.Alignment.same_before.Goals as goal
 
 pub returns : goal.returns
-returns c = rw c.same_at_end.ensures (same_before_is _ _ _ _ c.requires.left c.requires.right)
+returns c = same_before_cut _ _ _ _ _ _ c.requires.left c.requires.right (let m = c.min-n.ensures in omega arith) c.same_at_end.ensures

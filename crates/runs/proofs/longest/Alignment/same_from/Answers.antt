@@ -1,5 +1,6 @@
-use Rattle.runs.proofs.Alike.{same_from_is}
+use Rattle.std.proofs.Common.{arith}
+use Rattle.runs.proofs.Alike.{same_from_cut}
 use Rattle.runs.proofs.longest.Alignment.same_from.Goals as goal
 
 pub returns : goal.returns
-returns c = simp (c.same_at_start.ensures, c.rest.ensures, c.rest-2.ensures) (same_from_is _ _ _ _)
+returns c = same_from_cut _ _ _ _ _ _ _ _ c.rest-xs.ensures c.rest-ys.ensures (let m = c.min-n.ensures in omega arith) c.same_at_start.ensures
