@@ -1,4 +1,6 @@
 // A passage, as a report lists it.
+ghost use Rattle.std.specs.Prelude.{◌≡◌};
+ghost use Rattle.model.specs.Passages.{no_passage, by_eight};
 ghost use Rattle.model.specs.Totals.{eight_total};
 
 use order::Order;
@@ -22,7 +24,21 @@ pub struct Passage {
     pub there: ByteSpan,
 }
 
-// Passages rise by their eight fields, from the first on.
+impl Passage {
+    // An entry of a report list that holds no passage.
+    pub fn none() -> Passage
+        ensures { result ≡ no_passage }
+    {
+        Passage::default()
+    }
+}
+
+// The derived order goes by the eight fields, from the first on.
+pub fn passage_order()
+    ensures { (x y : Passage) → ⟦<Passage as Ord>⟧.cmp x y ≡ by_eight x y }
+{}
+
+// Passages rise by their eight fields.
 impl Order for Passage {
     ghost total = { eight_total };
 }
