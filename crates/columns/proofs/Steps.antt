@@ -1,25 +1,61 @@
--- A number as `{n:>width$}` writes it.
-use Rattle.std.proofs.Common.{◌≡◌, ℕ, zero, suc, ◌-◌, ◌^◌, false, not, ◌&&◌, List, [], ◌∷◌, ◌++◌, length, replicate, decimal, ◌==◌, refl, ap, ap₂, ◌∙◌, arith}
-use Rattle.std.specs.List.{repeat}
-use Rattle.std.specs.Fmt.{format_spec, is_bare_number, styled_decimal, padded_integral, char_count}
-use Rattle.std.proofs.lemmas.List.{append-nil}
-use Rattle.std.proofs.lemmas.Bool.{cond-false, and_left}
-use Rattle.std.proofs.Math.Dec.{eqb-suc-zero}
-use Rattle.columns.specs.Columns.{right}
+-- The digits of a number, and of its front.
+use Rattle.std.proofs.Common.{◌≡◌, ℕ, zero, suc, ◌+◌, ◌-◌, ◌*◌, ◌/◌, ◌%◌, ◌^◌, ◌<◌, ◌≤◌, max, true, cond, List, [], ◌∷◌, ◌++◌, length, get_or, take, drop, replicate, is_ok, IsErrAnd, Ok, Err, decimal, Result, sym, ap, ap₂, ◌∙◌, arith}
+use Rattle.std.specs.List.{flat_map}
+use Rattle.std.proofs.lemmas.Result.{err_from_is_err_and}
+use Rattle.std.proofs.lemmas.Bool.{false≢true}
+use Rattle.std.proofs.lemmas.Fmt.{decimal_digit, decimal_step}
+use Rattle.std.proofs.Math.Nat.{pow-suc, one-le-pow}
+use Rattle.std.proofs.lemmas.List.{append-nil, append_assoc, length_push, length-append, length-replicate, replicate-append-replicate, take-append-drop, take_at, take_all, take_more, drop_all, flat_map_more}
+use Rattle.columns.specs.Columns.{right, row}
 
-blanks : (k : ℕ) → repeat {A = ℕ} k (32 ∷ []) ≡ replicate k 32
-blanks zero = refl
-blanks (suc k) = ap (λ (xs : List ℕ). 32 ∷ xs) (blanks k)
+pub length_digit : (n : ℕ) → n < 10 → length (decimal n) ≡ 1
+length_digit n h = ap length (decimal_digit n h)
 
--- around it no sign, no prefix and no zeros, and behind the digits no fill
-filled : (k m : ℕ) (ds : List ℕ) → m ≡ 0 → repeat {A = ℕ} k (32 ∷ []) ++ [] ++ [] ++ [] ++ (ds ++ repeat {A = ℕ} m (32 ∷ [])) ≡ replicate k 32 ++ ds
-filled k m ds e = ap₂ ◌++◌ (append-nil _ ∙ append-nil _ ∙ append-nil _ ∙ blanks k) (ap (λ i. ds ++ repeat {A = ℕ} i (32 ∷ [])) e ∙ append-nil ds)
+pub length_step : (n : ℕ) → 10 ≤ n → n < 2 ^ 64 → length (decimal n) ≡ length (decimal (n / 10)) + 1
+length_step n h fits = ap length (decimal_step n h fits) ∙ length_push (decimal (n / 10)) (48 + n % 10)
 
-pub cell : (width n : ℕ) → styled_decimal (format_spec 32 3 0 width (2 ^ 64 - 1)) n ≡ right width n
-unfolding padded_integral char_count lib.Utf8.encode
-cell zero n = ap (λ k. replicate k 32 ++ decimal n) {x = 0} (omega arith)
-cell (suc w) n =
-    let s = format_spec 32 3 0 (suc w) (2 ^ 64 - 1) in
-    let k = suc w - length (decimal n) - 0 - 0 in
-    cond-false (is_bare_number s) (decimal n) (padded_integral s false [] (decimal n)) (and_left (suc w == 0 && not s.plus) (not s.alternate) (and_left (suc w == 0) (not s.plus) (eqb-suc-zero w)))
-    ∙ filled k (k - k) (decimal n) (omega arith) ∙ ap (λ i. replicate i 32 ++ decimal n) (omega arith)
+-- a number from 10 ^ k on and below the next power has k + 1 digits
+pub length_power : (k n : ℕ) → 10 ^ k ≤ n → n < 10 * 10 ^ k → n < 2 ^ 64 → length (decimal n) ≡ k + 1
+length_power zero n low high fits = length_digit n high
+length_power (suc k) n low high fits =
+    let power : 10 ^ suc k ≡ 10 ^ k * 10 = pow-suc 10 k in
+    let one : 1 ≤ 10 ^ k = one-le-pow k 10 (omega arith) in
+    let front : length (decimal (n / 10)) ≡ k + 1 = length_power k (n / 10) (omega arith) (omega arith) (omega arith) in
+    omega (arith, length_step n (omega arith) fits, front)
+
+-- blanks, and then the digits over the last of them
+pub cell_written : (old blank now : List ℕ) (n width more start end : ℕ) → blank ≡ old ++ replicate more 32 → more ≡ max width (length (decimal n)) → end ≡ length old + more → start + length (decimal n) ≡ end → take start now ≡ take start blank → drop start now ≡ decimal n ++ drop end blank → now ≡ old ++ right width n
+cell_written old blank now n width more start end b m e s before written =
+    let k = width - length (decimal n) in
+    let at : length old + k ≡ start = omega arith in
+    let few : more ≡ k + (more - k) = omega arith in
+    let all : length blank ≤ end = omega (arith, ap length b, length-append old (replicate more 32), length-replicate {A = ℕ} more 32) in
+    let front : take start blank ≡ old ++ replicate k 32 =
+    ap (take start) (b ∙ ap (λ j. old ++ replicate j 32) few ∙ ap (λ xs. old ++ xs) (sym (replicate-append-replicate k (more - k) 32)) ∙ sym (append_assoc old (replicate k 32) (replicate (more - k) 32)))
+    ∙ take_at (old ++ replicate k 32) (replicate (more - k) 32) start (length-append old (replicate k 32) ∙ ap (λ j. length old + j) (length-replicate {A = ℕ} k 32) ∙ at) in
+    sym (take-append-drop start now) ∙ ap₂ ◌++◌ (before ∙ front) (written ∙ ap (λ xs. decimal n ++ xs) (drop_all end blank all) ∙ append-nil (decimal n)) ∙ append_assoc old (replicate k 32) (decimal n)
+
+-- what stood before is what stands first
+pub first_kept : (start now more : List ℕ) (n : ℕ) → now ≡ start ++ more → n ≡ length start → take n now ≡ start
+first_kept start now more n e h = ap (take n) e ∙ take_at start more n (sym h)
+
+-- one number more in a line
+pub cells_more : (width : ℕ) (ns start now next : List ℕ) (i : ℕ) → i < length ns → now ≡ start ++ flat_map (right width) (take i ns) → next ≡ now ++ right width (get_or ns i 0) → next ≡ start ++ flat_map (right width) (take (i + 1) ns)
+cells_more width ns start now next i h e f =
+    f ∙ ap (λ xs. xs ++ right width (get_or ns i 0)) e ∙ flat_map_more (right width) start (take i ns) (get_or ns i 0) ∙ ap (λ xs. start ++ flat_map (right width) xs) (sym (take_more ns i 0 h))
+
+-- the line's end
+pub cells_all : (width : ℕ) (ns start now next : List ℕ) (i : ℕ) → length ns ≤ i → now ≡ start ++ flat_map (right width) (take i ns) → next ≡ now ++ 10 ∷ [] → next ≡ start ++ row width ns
+cells_all width ns start now next i h e f =
+    f ∙ ap (λ xs. xs ++ 10 ∷ []) (e ∙ ap (λ xs. start ++ flat_map (right width) xs) (take_all i ns h)) ∙ append_assoc start (flat_map (right width) ns) (10 ∷ [])
+
+-- what a step that may fail leaves
+pub step_ok : {T E : Type 0} {r : Result T E} {x : T} (now next more : List ℕ) → r ≡ Ok x → next ≡ cond (is_ok r) (now ++ more) now → next ≡ now ++ more
+step_ok now next more e f = f ∙ ap (λ r. cond (is_ok r) (now ++ more) now) e
+
+pub step_err : {T E : Type 0} {r : Result T E} {x : E} (now next more : List ℕ) → r ≡ Err x → next ≡ cond (is_ok r) (now ++ more) now → next ≡ now
+step_err now next more e f = f ∙ ap (λ r. cond (is_ok r) (now ++ more) now) e
+
+-- an error is not `Ok`
+pub never_ok : {T E : Type 0} {P : Type 0} (Q : E → Type 0) (r : Result T E) → IsErrAnd r Q → is_ok r ≡ true → P
+never_ok Q r e ok = let p = err_from_is_err_and {Q = Q} r e in absurd (false≢true (ap is_ok (sym p.1) ∙ ok))
