@@ -29,7 +29,7 @@ use Rattle.model.proofs.Held.{distinct_push}
 use Rattle.library.specs.declared.filed.Taken.{Taken}
 use Rattle.library.specs.Stores.{State, Shape, Sound, Same, Kept, Step, files, setting}
 use Rattle.library.specs.Adding.{admit_refusal, taking_refusal, behind, early, TakenIn}
-use Rattle.library.proofs.Stays.{stays}
+use Rattle.library.proofs.Stays.{stays, file_count}
 
 -- ---- the refusals in order
 
@@ -114,6 +114,7 @@ took_few cmp number ts e ps used tokens tokens' prints index index' x taken =
 pub shape_like : {V : Type 0} (s t : State V) → Shape s → t.table ≡ s.table → t.used ≡ s.used → t.prints ≡ s.prints → Kept s t → Shape t
 shape_like s t h tb u p k =
     record {
+      few = rw tb h.few;
       full = rw (u, tb) h.full;
       within = rw (u, k.room) h.within;
       room = rw k.room h.room;
@@ -245,7 +246,11 @@ module _ {V : Type 0} (value : List ℕ → V) (cmp : V → V → Ordering) (s :
           let g = (taken.grants late_none).7 in
           let all = (taken.grants late_none).4.fewer in
           let same : (taken.grants late_none).0.prints ≡ x.prints = ap (λ (y : Taken). y.prints) got in
+          let c = file_count s in
+          let room = few_files (files s) n (s.t - s.k + 1) work a in
+          let more : length t.table ≡ length s.table + 1 = ap length one_more ∙ length-append s.table (entry ∷ []) in
           record {
+            few = omega arith;
             full = used ∙ ap₂ (λ (y z : ℕ). y + z) u i ∙ sym (extent_added s.table entry) ∙ ap extent (sym one_more);
             within = omega arith;
             room = rw r h.room;

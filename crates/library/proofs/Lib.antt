@@ -5,4 +5,3 @@ pub mod Added
 pub mod Reports
 pub mod Runs
 pub mod Ends
-pub mod Shaped

@@ -72,7 +72,12 @@ module _ {V : Type 0} (s : State V) (h : Shape s) (n : ℕ) (p : Spot) (f : At n
         let w = h.within in
         let x = h.indexed in
         let i = out.index.fewer in
+        let few = h.few in
+        let front = length-take p.slot s.table in
+        let back = length-drop (p.slot + 1) s.table in
+        let less : length t.table ≡ length (take p.slot s.table) + length (drop (p.slot + 1) s.table) = ap length out.table ∙ length-append (take p.slot s.table) (drop (p.slot + 1) s.table) in
         record {
+          few = omega arith;
           full = omega arith;
           within = omega arith;
           room = rw kr h.room;

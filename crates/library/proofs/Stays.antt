@@ -32,8 +32,8 @@ module _ {V : Type 0} where
         let b : leb (length (files s)) m ≡ false = lt-leb _ _ (let c = file_count s in omega arith) in
         stays value cmp s (held m) (listed (Err (plain HeldShort)) xs) refl (λ _. rw (b, e) refl)
 
-    pub held_all : length s.table ≤ m → xs ≡ map (λ (e : Entry). e.number) s.table ++ drop (length s.table) (replicate m 0) → Step value cmp s s (held m) (listed (Ok (length s.table)) xs)
-    held_all l e =
+    pub held_all : {count : ℕ} → count ≡ length s.table → length s.table ≤ m → xs ≡ map (λ (e : Entry). e.number) s.table ++ drop (length s.table) (replicate m 0) → Step value cmp s s (held m) (listed (Ok count) xs)
+    held_all {count} is l e =
         let c = file_count s in
         let b : leb (length (files s)) m ≡ true = le-leb _ _ (omega arith) in
         let ns : numbers (files s) ≡ map (λ (x : Entry). x.number) s.table = numbers_cut s.table s.tokens.now in
@@ -41,4 +41,4 @@ module _ {V : Type 0} where
         let list : xs ≡ padded (numbers (files s)) m 0 =
         e ∙ ap (λ (z : List ℕ). map (λ (x : Entry). x.number) s.table ++ z) (drop-replicate (length s.table) m 0)
         ∙ ap (λ (z : List ℕ). z ++ replicate (m - length s.table) 0) (sym ns) ∙ ap (λ (z : ℕ). numbers (files s) ++ replicate (m - z) 0) n in
-        stays value cmp s (held m) (listed (Ok (length s.table)) xs) refl (λ _. rw (b, c, list) refl)
+        stays value cmp s (held m) (listed (Ok count) xs) refl (λ _. rw (is, b, c, list) refl)

@@ -30,6 +30,7 @@ files s = cut s.table s.tokens.now
 
 -- what holds of it whatever the hash
 pub record Shape {V : Type 0} (s : State V) : Type 0 where
+  pub few : length s.table ≤ 64
   pub full : s.used ≡ extent s.table
   pub within : s.used ≤ length s.tokens.now
   pub room : length s.tokens.now ≤ limit
@@ -39,6 +40,11 @@ pub record Shape {V : Type 0} (s : State V) : Type 0 where
   pub high : s.k ≤ 64
   pub least : s.k ≤ s.t
   pub most : s.t ≤ 256
+
+-- what clauses see of a library: a state, and that this holds of it, so that it is known of every library with no call made
+pub record Shaped (V : Type 0) : Type 0 where
+  pub state : State V
+  pub shape : Shape state
 
 module _ {V : Type 0} (value : List ℕ → V) (cmp : V → V → Ordering) where
   abbrev pub setting : State V → Setting V

@@ -4,6 +4,7 @@
 mod adding;
 mod filed;
 mod holding;
+mod lengths;
 pub mod library;
 pub mod plan;
 mod removing;

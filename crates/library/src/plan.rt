@@ -1,9 +1,9 @@
 // What a library is opened with.
-ghost use Rattle.std.specs.Prelude.{◌≡◌, ◌+◌, ◌-◌, ◌≤◌};
+ghost use Rattle.std.specs.Prelude.{◌≡◌, ◌≤◌};
 ghost use Rattle.std.specs.Result.{MatchResult};
 
+use crate::lengths::Lengths;
 use model::refusal::{Reason, Refusal};
-use prints::winnowing::Winnowing;
 use std::marker::PhantomData;
 
 // A hash, known by its type, the length of its grams, and the length from which no shared run is missed.
@@ -39,14 +39,14 @@ impl<H> Plan<H> {
         })
     }
 
-    // Windows are as long that a run of t tokens fills one.
-    pub(crate) fn winnowing(&self) -> Winnowing
+    // What a library keeps of it.
+    pub(crate) fn lengths(&self) -> Lengths
         ensures gram { result.k ≡ self.now.k }
-        ensures window { result.w ≡ self.now.t - self.now.k + 1 }
+        ensures run { result.t ≡ self.now.t }
     {
-        Winnowing {
+        Lengths {
             k: self.k,
-            w: self.t - self.k + 1,
+            t: self.t,
         }
     }
 }

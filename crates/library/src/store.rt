@@ -2,6 +2,7 @@
 ghost use Rattle.std.specs.Prelude.{◌≡◌, ◌≤◌, [], length};
 ghost use Rattle.model.specs.Tables.{extent};
 
+use crate::lengths::Lengths;
 use crate::plan::Plan;
 use arrayvec::ArrayVec;
 use filling::entries::wipe;
@@ -21,7 +22,8 @@ pub struct Store<'a, 'b, H: GramHash> {
     pub index: &'b mut [Fingerprint<H::Value>],
     // how many entries of the index are used
     pub prints: usize,
-    pub plan: Plan<H>,
+    pub plan: Lengths,
+    ghost few: { length table.items ≤ 64 },
     ghost full: { used ≡ extent table.items },
     ghost within: { used ≤ length tokens.now },
     ghost room: { length tokens.now ≤ 1048576 },
@@ -52,7 +54,7 @@ impl<'a, 'b, H: GramHash> Store<'a, 'b, H> {
             table: ArrayVec::new(),
             index,
             prints: 0,
-            plan,
+            plan: plan.lengths(),
         }
     }
 }

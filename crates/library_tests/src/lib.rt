@@ -5,6 +5,7 @@
 mod common;
 #[cfg(test)]
 mod holding;
+pub mod known;
 #[cfg(test)]
 mod passages;
 #[cfg(test)]

@@ -1,6 +1,5 @@
 use Rattle.std.proofs.Common.{rules}
-use Rattle.library.specs.States.{state}
-use Rattle.library.proofs.Shaped.{shape_of}
+use Rattle.library.specs.States.{state, shape_of}
 use Rattle.library.proofs.Ends.{ran_over}
 use Rattle.library.proofs.running.run_over.Goals as goal
 

@@ -2,8 +2,7 @@ use Rattle.std.proofs.Common.{◌+◌, ◌-◌, length, sym, refl, ◌∙◌, ar
 use borrow.Author.Tests.{both_ways}
 use Rattle.std.proofs.lemmas.Result.{err_from_is_err_and}
 use Rattle.library.specs.Stores.{files, Kept}
-use Rattle.library.specs.States.{state}
-use Rattle.library.proofs.Shaped.{shape_of}
+use Rattle.library.specs.States.{state, shape_of}
 use Rattle.library.proofs.Stays.{file_count}
 use Rattle.library.proofs.Adds.{unless_err, unless_ok}
 use Rattle.library.proofs.Added.{refused_early, few_files, not_early, refused_late, shape_more, granted}
@@ -34,7 +33,7 @@ invariant_of-self-in-Ok g c =
     let taken = rw (c.winnowing-by.ensures.gram, c.winnowing-by.ensures.window) at c.in-Ok.ensures in
     let kept : Kept (state s) (record { tokens = record { ref_ptr = s.tokens.ref_ptr; ghost_name = s.tokens.ghost_name; now = c.take_in.new.tokens }; used = s.used + c.in-Ok.file.len; table = c.push.new.self.items; index = record { ref_ptr = s.index.ref_ptr; ghost_name = s.index.ghost_name; now = c.take_in.new.index }; prints = c.in-Ok.file.prints; k = s.plan.k; t = s.plan.t }) = record { gram = refl; run = refl; room = taken.room; places = taken.places; tokens = refl; index = refl } in
     let h = shape_more _ _ (state s) (shape_of s) c.args.number _ _ (length c.args.work.now) g.met.H.Value.Order.total a _ c.take_in.new.tokens c.take_in.new.index c.in-Ok.file kept taken refl refl c.push.ensures.items refl refl in
-    record { full = h.full; within = h.within; room = h.room; places = h.places; indexed = h.indexed }
+    record { few = h.few; full = h.full; within = h.within; room = h.room; places = h.places; indexed = h.indexed }
 
 pub returns-in-Err-clause-step : goal.returns-in-Err-clause-step
 returns-in-Err-clause-step g c =

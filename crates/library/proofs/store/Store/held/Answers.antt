@@ -18,4 +18,4 @@ returns g c =
     let n = c.fill.auto.self in
     let m = c.len-count.ensures.value in
     let w : c.write_numbers.new.list ≡ map (λ (e : Entry). e.number) s.table.items ++ drop (length s.table.items) (replicate (length c.args.list.now) 0) = rw (sym c.as_slice.ensures.value, sym zeros) c.write_numbers.ensures in
-    rw m (held_all _ _ (state s) (length c.args.list.now) c.write_numbers.new.list (omega arith) w)
+    held_all _ _ (state s) (length c.args.list.now) c.write_numbers.new.list (search (rules, arith)) (omega arith) w

@@ -1,7 +1,6 @@
 use Rattle.std.proofs.Common.{sym}
 use Rattle.model.specs.Tables.{At, Absent}
-use Rattle.library.specs.States.{state}
-use Rattle.library.proofs.Shaped.{shape_of}
+use Rattle.library.specs.States.{state, shape_of}
 use Rattle.library.proofs.Removes.{removed_step, unremoved_step}
 use Rattle.library.proofs.store.Store.remove.Goals as goal
 

@@ -10,7 +10,7 @@ returns g c =
     record {
       tokens = c.close_tokens.ensures;
       table = c.remove.ensures.items ∙ ap (λ (i : ℕ). take p.slot s.table.items ++ drop i s.table.items) one;
-      index = c.remove_all-self.ensures.thinned _ (always_returns_same _ _ _ (λ a r f k. search rules));
+      index = c.remove_where-self.ensures.thinned _ (always_returns_same _ _ _ (λ a r f k. search rules));
       used = refl;
-      kept = record { gram = refl; run = refl; room = c.close_tokens.auto.tokens; places = c.remove_all-self.auto.list; tokens = refl; index = refl };
+      kept = record { gram = refl; run = refl; room = c.close_tokens.auto.tokens; places = c.remove_where-self.auto.list; tokens = refl; index = refl };
     }
