@@ -27,7 +27,7 @@ use Rattle.indexing.proofs.Counts.{index_count}
 use Rattle.indexing.proofs.Index.{index_added}
 use Rattle.model.proofs.Held.{distinct_push}
 use Rattle.library.specs.declared.filed.Taken.{Taken}
-use Rattle.library.specs.Stores.{State, Shape, Sound, Same, Kept, Step, files, setting}
+use Rattle.library.specs.Stores.{State, Bounds, Shape, Sound, Same, Kept, Step, files, setting, bounds_of}
 use Rattle.library.specs.Adding.{admit_refusal, taking_refusal, behind, early, TakenIn}
 use Rattle.library.proofs.Stays.{stays, file_count}
 
@@ -111,10 +111,9 @@ took_few cmp number ts e ps used tokens tokens' prints index index' x taken =
     (λ w k. absurd (let z : false ≡ true = ap is_err (taken.refuses w k).0 in both_ways false refl z))
 
 -- where nothing but the lists' contents changed
-pub shape_like : {V : Type 0} (s t : State V) → Shape s → t.table ≡ s.table → t.used ≡ s.used → t.prints ≡ s.prints → Kept s t → Shape t
+pub shape_like : {V : Type 0} (s t : State V) → Bounds s → t.table ≡ s.table → t.used ≡ s.used → t.prints ≡ s.prints → Kept s t → Bounds t
 shape_like s t h tb u p k =
     record {
-      few = rw tb h.few;
       full = rw (u, tb) h.full;
       within = rw (u, k.room) h.within;
       room = rw k.room h.room;
@@ -126,7 +125,24 @@ shape_like s t h tb u p k =
       most = rw k.run h.most;
     }
 
-module _ {V : Type 0} (value : List ℕ → V) (cmp : V → V → Ordering) (s : State V) (h : Shape s) (n : ℕ) (ts : List Token) (e : Option Fault) (work : ℕ) where
+-- if the one holds 64 files at most, so does the other
+pub few_shape_like : {V : Type 0} (s t : State V) → Shape s → t.table ≡ s.table → t.used ≡ s.used → t.prints ≡ s.prints → Kept s t → Shape t
+few_shape_like s t h tb u p k =
+    let b = shape_like s t (bounds_of h) tb u p k in
+    record {
+      few = rw tb h.few;
+      full = b.full;
+      within = b.within;
+      room = b.room;
+      places = b.places;
+      indexed = b.indexed;
+      low = b.low;
+      high = b.high;
+      least = b.least;
+      most = b.most;
+    }
+
+module _ {V : Type 0} (value : List ℕ → V) (cmp : V → V → Ordering) (s : State V) (h : Bounds s) (n : ℕ) (ts : List Token) (e : Option Fault) (work : ℕ) where
   pub refused_early : (r : Refusal) → admit_refusal (files s) n (s.t - s.k + 1) work ≡ Some r → Step value cmp s s (add n ts e work) (added (Err r))
   refused_early r a =
       let why = in_two_parts (setting value cmp s) (files s) n ts e work in

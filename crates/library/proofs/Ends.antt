@@ -19,7 +19,7 @@ use Rattle.promises.specs.Promises.{Answered}
 use Rattle.promises.proofs.Pairing.{print_at, prints_in, in_prints}
 use Rattle.promises.proofs.Promising.{promised}
 use Rattle.promises.proofs.Telling.{answered}
-use Rattle.library.specs.Stores.{State, Shape, Sound, Opened, Steps, files, setting}
+use Rattle.library.specs.Stores.{State, Bounds, Sound, Opened, Steps, files, setting}
 use Rattle.library.specs.Running.{setting_over, IsPrint, Ran}
 
 -- ---- a fingerprint of the held files is a chosen place of one of them with its value
@@ -49,7 +49,7 @@ module _ {V : Type 0} (S : Scheme V) (o : TotalOrder S.cmp) (fs : Files) where
 
 -- ---- the lists
 
-module _ {V : Type 0} (value : List ℕ → V) {cmp : V → V → Ordering} (o : TotalOrder cmp) (s : State V) (h : Shape s) (q : Sound value cmp s) where
+module _ {V : Type 0} (value : List ℕ → V) {cmp : V → V → Ordering} (o : TotalOrder cmp) (s : State V) (h : Bounds s) (q : Sound value cmp s) where
   abbrev S : Scheme V
   S = scheme value cmp s.k s.t
 
@@ -78,7 +78,7 @@ module _ {V : Type 0} (value : List ℕ → V) {cmp : V → V → Ordering} (o :
 -- over lists that are used whole
 module _ {V : Type 0} (value : List ℕ → V) {cmp : V → V → Ordering} (o : TotalOrder cmp) (s t : State V) (cs : List Asked) (os : List Outcome)
     (low : 1 ≤ s.k) (least : s.k ≤ s.t) (few-tokens : length s.tokens.now ≤ limit) (few-places : length s.index.now ≤ limit)
-    (sound : Sound value cmp s) (none : files s ≡ []) (shape : Shape t) (steps : Steps value cmp s t cs os) where
+    (sound : Sound value cmp s) (none : files s ≡ []) (shape : Bounds t) (steps : Steps value cmp s t cs os) where
   abbrev st : Setting V
   st = setting value cmp s
 
@@ -116,7 +116,7 @@ module _ {V : Type 0} (value : List ℕ → V) {cmp : V → V → Ordering} (o :
 -- a library that was opened over lists that it uses whole
 module _ {V : Type 0} (value : List ℕ → V) {cmp : V → V → Ordering} (o : TotalOrder cmp) (s t : State V) (cs : List Asked) (os : List Outcome) (k r : ℕ) (tokens : List Token) (index : List (Fingerprint V))
     (low : 1 ≤ k) (least : k ≤ r) (few-tokens : length tokens ≤ limit) (few-places : length index ≤ limit)
-    (opened : Opened value cmp k r tokens index s) (shape : Shape t) (steps : Steps value cmp s t cs os) where
+    (opened : Opened value cmp k r tokens index s) (shape : Bounds t) (steps : Steps value cmp s t cs os) where
   long : length tokens ≡ length s.tokens.now
   long = let l = ap length opened.tokens ∙ length-replicate (min (length tokens) limit) unused in omega arith
 

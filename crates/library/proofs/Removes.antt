@@ -17,7 +17,7 @@ use Rattle.model.proofs.Held.{without_none, distinct_kept}
 use Rattle.model.proofs.Tabled.{extent_within, known_at, known_absent}
 use Rattle.filling.proofs.Surgery.{extent_removed, cut_removed, without_at}
 use Rattle.indexing.proofs.Index.{index_less}
-use Rattle.library.specs.Stores.{State, Shape, Sound, Step, files}
+use Rattle.library.specs.Stores.{State, Bounds, Shape, Sound, Step, files, bounds_of}
 use Rattle.library.specs.Removal.{TakenOut}
 use Rattle.library.proofs.Stays.{stays}
 
@@ -49,7 +49,7 @@ module _ (old one w : List Token) (at n u : ℕ) (fits : at + n ≤ u) (in_List 
 
 -- ---- the file that goes
 
-module _ {V : Type 0} (s : State V) (h : Shape s) (n : ℕ) (p : Spot) (f : At n s.table p) where
+module _ {V : Type 0} (s : State V) (h : Bounds s) (n : ℕ) (p : Spot) (f : At n s.table p) where
   pub spot_within : p.start + p.len ≤ s.used
   spot_within =
       let a = extent_within s.table p.slot f.within in
@@ -62,7 +62,7 @@ module _ {V : Type 0} (s : State V) (h : Shape s) (n : ℕ) (p : Spot) (f : At n
     extent_less : extent t.table + p.len ≡ s.used
     extent_less = ap (λ (x : List Entry). extent x + p.len) out.table ∙ ap (λ (x : ℕ). extent (take p.slot s.table ++ drop (p.slot + 1) s.table) + x) f.long ∙ extent_removed s.table p.slot f.within ∙ sym h.full
 
-    pub shape_less : Shape t
+    pub shape_less : Bounds t
     shape_less =
         let k = out.kept in
         let e = extent_less in
@@ -72,12 +72,7 @@ module _ {V : Type 0} (s : State V) (h : Shape s) (n : ℕ) (p : Spot) (f : At n
         let w = h.within in
         let x = h.indexed in
         let i = out.index.fewer in
-        let few = h.few in
-        let front = length-take p.slot s.table in
-        let back = length-drop (p.slot + 1) s.table in
-        let less : length t.table ≡ length (take p.slot s.table) + length (drop (p.slot + 1) s.table) = ap length out.table ∙ length-append (take p.slot s.table) (drop (p.slot + 1) s.table) in
         record {
-          few = omega arith;
           full = omega arith;
           within = omega arith;
           room = rw kr h.room;
@@ -101,7 +96,28 @@ module _ {V : Type 0} (s : State V) (h : Shape s) (n : ℕ) (p : Spot) (f : At n
         ∙ cut_removed s.table p.slot f.within s.tokens.now t.tokens.now more (omega arith) is
         ∙ sym (without_at s.table s.tokens.now p.slot d f.within) ∙ ap (λ (x : ℕ). without x (files s)) f.is
 
-module _ {V : Type 0} (value : List ℕ → V) {cmp : V → V → Ordering} (o : TotalOrder cmp) (s : State V) (h : Shape s) (n : ℕ) (p : Spot) (f : At n s.table p) (t : State V) (out : TakenOut cmp s t n p) where
+-- where 64 files at most were held, no more are
+pub few_shape_less : {V : Type 0} (s : State V) → Shape s → (n : ℕ) (p : Spot) → At n s.table p → {cmp : V → V → Ordering} (t : State V) → TakenOut cmp s t n p → Shape t
+few_shape_less s h n p f t out =
+    let b = shape_less s (bounds_of h) n p f t out in
+    let few = h.few in
+    let front = length-take p.slot s.table in
+    let back = length-drop (p.slot + 1) s.table in
+    let less : length t.table ≡ length (take p.slot s.table) + length (drop (p.slot + 1) s.table) = ap length out.table ∙ length-append (take p.slot s.table) (drop (p.slot + 1) s.table) in
+    record {
+      few = omega arith;
+      full = b.full;
+      within = b.within;
+      room = b.room;
+      places = b.places;
+      indexed = b.indexed;
+      low = b.low;
+      high = b.high;
+      least = b.least;
+      most = b.most;
+    }
+
+module _ {V : Type 0} (value : List ℕ → V) {cmp : V → V → Ordering} (o : TotalOrder cmp) (s : State V) (h : Bounds s) (n : ℕ) (p : Spot) (f : At n s.table p) (t : State V) (out : TakenOut cmp s t n p) where
   sound_less : Sound value cmp s → Sound value cmp t
   sound_less q =
       let S : Scheme V = scheme value cmp s.k s.t in

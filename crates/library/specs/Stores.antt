@@ -28,7 +28,19 @@ pub record State (V : Type 0) : Type 0 where
 abbrev pub files : {V : Type 0} → State V → Files
 files s = cut s.table s.tokens.now
 
--- what holds of it whatever the hash
+-- what holds of it whatever the hash and however many files it holds
+pub record Bounds {V : Type 0} (s : State V) : Type 0 where
+  pub full : s.used ≡ extent s.table
+  pub within : s.used ≤ length s.tokens.now
+  pub room : length s.tokens.now ≤ limit
+  pub places : length s.index.now ≤ limit
+  pub indexed : s.prints ≤ length s.index.now
+  pub low : 1 ≤ s.k
+  pub high : s.k ≤ 64
+  pub least : s.k ≤ s.t
+  pub most : s.t ≤ 256
+
+-- the same, and that it holds 64 files at most
 pub record Shape {V : Type 0} (s : State V) : Type 0 where
   pub few : length s.table ≤ 64
   pub full : s.used ≡ extent s.table
@@ -40,6 +52,21 @@ pub record Shape {V : Type 0} (s : State V) : Type 0 where
   pub high : s.k ≤ 64
   pub least : s.k ≤ s.t
   pub most : s.t ≤ 256
+
+-- the bounds alone, which the laws of a store ask of it
+pub bounds_of : {V : Type 0} {s : State V} → Shape s → Bounds s
+bounds_of h =
+    record {
+      full = h.full;
+      within = h.within;
+      room = h.room;
+      places = h.places;
+      indexed = h.indexed;
+      low = h.low;
+      high = h.high;
+      least = h.least;
+      most = h.most;
+    }
 
 -- what clauses see of a library: a state, and that this holds of it, so that it is known of every library with no call made
 pub record Shaped (V : Type 0) : Type 0 where
