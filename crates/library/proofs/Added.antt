@@ -27,7 +27,7 @@ use Rattle.indexing.proofs.Counts.{index_count}
 use Rattle.indexing.proofs.Index.{index_added}
 use Rattle.model.proofs.Held.{distinct_push}
 use Rattle.library.specs.declared.filed.Taken.{Taken}
-use Rattle.library.specs.Stores.{State, Bounds, Shape, Sound, Same, Kept, Step, files, setting, bounds_of}
+use Rattle.library.specs.Stores.{State, Bounds, Shape, Sound, Same, Kept, Step, files, setting, bounds_of, shape_from}
 use Rattle.library.specs.Adding.{admit_refusal, taking_refusal, behind, early, TakenIn}
 use Rattle.library.proofs.Stays.{stays, file_count}
 
@@ -127,20 +127,7 @@ shape_like s t h tb u p k =
 
 -- if the one holds 64 files at most, so does the other
 pub few_shape_like : {V : Type 0} (s t : State V) → Shape s → t.table ≡ s.table → t.used ≡ s.used → t.prints ≡ s.prints → Kept s t → Shape t
-few_shape_like s t h tb u p k =
-    let b = shape_like s t (bounds_of h) tb u p k in
-    record {
-      few = rw tb h.few;
-      full = b.full;
-      within = b.within;
-      room = b.room;
-      places = b.places;
-      indexed = b.indexed;
-      low = b.low;
-      high = b.high;
-      least = b.least;
-      most = b.most;
-    }
+few_shape_like s t h tb u p k = shape_from (rw tb h.few) (shape_like s t (bounds_of h) tb u p k)
 
 module _ {V : Type 0} (value : List ℕ → V) (cmp : V → V → Ordering) (s : State V) (h : Bounds s) (n : ℕ) (ts : List Token) (e : Option Fault) (work : ℕ) where
   pub refused_early : (r : Refusal) → admit_refusal (files s) n (s.t - s.k + 1) work ≡ Some r → Step value cmp s s (add n ts e work) (added (Err r))

@@ -17,7 +17,7 @@ use Rattle.model.proofs.Held.{without_none, distinct_kept}
 use Rattle.model.proofs.Tabled.{extent_within, known_at, known_absent}
 use Rattle.filling.proofs.Surgery.{extent_removed, cut_removed, without_at}
 use Rattle.indexing.proofs.Index.{index_less}
-use Rattle.library.specs.Stores.{State, Bounds, Shape, Sound, Step, files, bounds_of}
+use Rattle.library.specs.Stores.{State, Bounds, Shape, Sound, Step, files, bounds_of, shape_from}
 use Rattle.library.specs.Removal.{TakenOut}
 use Rattle.library.proofs.Stays.{stays}
 
@@ -99,23 +99,11 @@ module _ {V : Type 0} (s : State V) (h : Bounds s) (n : ℕ) (p : Spot) (f : At 
 -- where 64 files at most were held, no more are
 pub few_shape_less : {V : Type 0} (s : State V) → Shape s → (n : ℕ) (p : Spot) → At n s.table p → {cmp : V → V → Ordering} (t : State V) → TakenOut cmp s t n p → Shape t
 few_shape_less s h n p f t out =
-    let b = shape_less s (bounds_of h) n p f t out in
     let few = h.few in
     let front = length-take p.slot s.table in
     let back = length-drop (p.slot + 1) s.table in
     let less : length t.table ≡ length (take p.slot s.table) + length (drop (p.slot + 1) s.table) = ap length out.table ∙ length-append (take p.slot s.table) (drop (p.slot + 1) s.table) in
-    record {
-      few = omega arith;
-      full = b.full;
-      within = b.within;
-      room = b.room;
-      places = b.places;
-      indexed = b.indexed;
-      low = b.low;
-      high = b.high;
-      least = b.least;
-      most = b.most;
-    }
+    shape_from (omega arith) (shape_less s (bounds_of h) n p f t out)
 
 module _ {V : Type 0} (value : List ℕ → V) {cmp : V → V → Ordering} (o : TotalOrder cmp) (s : State V) (h : Bounds s) (n : ℕ) (p : Spot) (f : At n s.table p) (t : State V) (out : TakenOut cmp s t n p) where
   sound_less : Sound value cmp s → Sound value cmp t

@@ -40,7 +40,7 @@ pub record Bounds {V : Type 0} (s : State V) : Type 0 where
   pub least : s.k ≤ s.t
   pub most : s.t ≤ 256
 
--- the same, and that it holds 64 files at most
+-- the same, and that it holds 64 files at most; each a field of its own, since callers name them
 pub record Shape {V : Type 0} (s : State V) : Type 0 where
   pub few : length s.table ≤ 64
   pub full : s.used ≡ extent s.table
@@ -66,6 +66,22 @@ bounds_of h =
       high = h.high;
       least = h.least;
       most = h.most;
+    }
+
+-- and with the number of files the whole
+pub shape_from : {V : Type 0} {s : State V} → length s.table ≤ 64 → Bounds s → Shape s
+shape_from few b =
+    record {
+      few = few;
+      full = b.full;
+      within = b.within;
+      room = b.room;
+      places = b.places;
+      indexed = b.indexed;
+      low = b.low;
+      high = b.high;
+      least = b.least;
+      most = b.most;
     }
 
 -- what clauses see of a library: a state, and that this holds of it, so that it is known of every library with no call made
